@@ -1,0 +1,4 @@
+pub mod Codes
+pub mod Growth
+pub mod Outside
+pub mod Stored
