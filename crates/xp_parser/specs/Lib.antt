@@ -1,0 +1,4 @@
+pub mod Runs
+pub mod Script
+pub mod Statement
+pub mod Words
