@@ -12,6 +12,7 @@ use Rattle.xp_parser.specs.declared.part.Part.{Part}
 abbrev pub class_of : ℕ → Class
 class_of b = cond (is_blank b) Blank (cond (is_ascii_alphanumeric b) Word (cond (is_some (sign_of b)) Operator Other))
 
+-- both are one class
 abbrev pub is_same : Class → Class → Bool
 is_same Blank Blank = true
 is_same Word Word = true
