@@ -1,5 +1,5 @@
 -- What a run of bytes says: a constant, an operator, or neither (manual 4.1.2 and 4.1.3).
-use Rattle.std.specs.Prelude.{ℕ, ◌+◌, ◌-◌, ◌*◌, List, [], ◌∷◌, Option, Some, None, nat_le, ◌==◌, ◌&&◌, cond, fold, codes}
+use Rattle.std.specs.Prelude.{pos, ℕ, ◌+◌, ◌-◌, ◌*◌, List, [], ◌∷◌, Option, Some, None, nat_le, ◌==◌, ◌&&◌, cond, fold, codes}
 use Rattle.std.specs.List.{list_all}
 use Rattle.std.specs.Char.{is_ascii_digit}
 use Rattle.std.specs.Str.{str_eq_ignore_ascii_case}
@@ -16,7 +16,7 @@ value_of digits = fold (λ value digit. value * 10 + (digit - 48)) 0 digits
 abbrev pub number_of : List ℕ → Option Literal
 number_of bytes =
     cond (list_all is_ascii_digit bytes && nat_le (value_of bytes) 2147483647)
-    (Some (literal.Number (value_of bytes)))
+    (Some (literal.Number (pos (value_of bytes))))
     None
 
 -- TRUE and FALSE in any case of letters, or a number

@@ -4,7 +4,7 @@ ghost use Rattle.std.specs.Prelude.{◌≡◌};
 /// A constant (manual 4.1.2).
 #[derive(Clone, Copy, Debug, PartialEq, Eq)]
 pub enum Literal {
-    Number(u32),
+    Number(i32),
     True,
     False,
 }

@@ -32,7 +32,7 @@ fn number(bytes: &[u8]) -> Option<Literal>
 {
     let value = capped_value(bytes);
     if all_digits(bytes) && value < TOO_LARGE {
-        Some(Literal::Number(value as u32))
+        Some(Literal::Number(value as i32))
     } else {
         None
     }
