@@ -1,0 +1,5 @@
+pub mod Ascii
+pub mod Fields
+pub mod KnownRows
+pub mod OneReading
+pub mod Refused

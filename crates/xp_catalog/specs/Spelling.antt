@@ -1,0 +1,88 @@
+-- How names, letters and flags of records are spelled (manual 4.1.1, 4.1.3, 52.65).
+use Rattle.std.specs.Prelude.{ℕ, ◌-◌, List, [], ◌∷◌, Bool, false, ◌==◌, ◌&&◌, ◌||◌, not, cond, length, nat_lt, nat_le, slice_index, codes}
+use Rattle.std.specs.List.{list_all, list_any}
+use Rattle.std.specs.Str.{bytes_eq}
+
+abbrev pub is_digit : ℕ → Bool
+is_digit b = nat_le 48 b && nat_le b 57
+
+-- a to z, 0 to 9 or `_`
+abbrev pub is_name_byte : ℕ → Bool
+is_name_byte b = (nat_le 97 b && nat_le b 122) || is_digit b || b == 95
+
+-- 1 to 63 bytes of names that begin with no digit
+abbrev pub is_name : List ℕ → Bool
+is_name name = nat_lt 0 (length name) && nat_le (length name) 63 && list_all is_name_byte name && not (is_digit (slice_index name 0))
+
+-- a word of the list
+abbrev pub is_among : List (List ℕ) → List ℕ → Bool
+is_among words word = list_any (bytes_eq word) words
+
+-- the names of pseudo-types (manual 8.21)
+abbrev pub pseudo_names : List (List ℕ)
+pseudo_names =
+    codes "any" ∷ codes "anyelement" ∷ codes "anyarray" ∷ codes "anynonarray" ∷ codes "anyrange"
+    ∷ codes "anycompatible" ∷ codes "anycompatiblearray" ∷ codes "anycompatiblenonarray" ∷ codes "anycompatiblerange" ∷ []
+
+-- names that only records of ranges may give
+abbrev pub range_names : List (List ℕ)
+range_names = codes "int4range" ∷ codes "int8range" ∷ codes "daterange" ∷ []
+
+-- the name of a plain type
+abbrev pub is_type_name : List ℕ → Bool
+is_type_name name = is_name name && not (bytes_eq name (codes "unknown")) && not (is_among pseudo_names name) && not (is_among range_names name)
+
+abbrev pub number_names : List (List ℕ)
+number_names = codes "int2" ∷ codes "int4" ∷ codes "int8" ∷ codes "numeric" ∷ []
+
+abbrev pub text_names : List (List ℕ)
+text_names = codes "text" ∷ codes "varchar" ∷ codes "bpchar" ∷ []
+
+-- the categories that a type of that name may have
+abbrev pub letters_of : List ℕ → List ℕ
+letters_of name =
+    cond (bytes_eq name (codes "bool")) (codes "B") (
+    cond (is_among number_names name) (codes "N") (
+    cond (is_among text_names name) (codes "S") (
+    cond (bytes_eq name (codes "bytea")) (codes "U") (
+    cond (bytes_eq name (codes "date")) (codes "D") (codes "BCDEGINSTUVZ")))))
+
+-- one of those letters, alone
+abbrev pub is_letter_of : List ℕ → List ℕ → Bool
+is_letter_of name letter = length letter == 1 && list_any (λ b. b == slice_index letter 0) (letters_of name)
+
+abbrev pub is_flag : List ℕ → Bool
+is_flag flag = bytes_eq flag (codes "t") || bytes_eq flag (codes "f")
+
+abbrev pub is_operator_byte : ℕ → Bool
+is_operator_byte b = list_any (λ c. c == b) (codes "+-*/<>=~!@#%^&|`?")
+
+-- a byte that lets an operator end in + or -
+abbrev pub is_special_byte : ℕ → Bool
+is_special_byte b = list_any (λ c. c == b) (codes "~!@#%^&|`?")
+
+-- the byte is the first of the list
+abbrev pub begins_with : ℕ → List ℕ → Bool
+begins_with b [] = false
+begins_with b (x ∷ xs) = x == b
+
+-- somewhere the first byte stands before the second
+abbrev pub has_pair : ℕ → ℕ → List ℕ → Bool
+has_pair first second [] = false
+has_pair first second (x ∷ xs) = (x == first && begins_with second xs) || has_pair first second xs
+
+-- + or -
+abbrev pub is_sign : ℕ → Bool
+is_sign b = b == 43 || b == 45
+
+-- a last + or - is part of the operator
+abbrev pub may_end : List ℕ → Bool
+may_end name = length name == 1 || not (is_sign (slice_index name (length name - 1))) || list_any is_special_byte name
+
+-- one whole operator token
+abbrev pub is_operator : List ℕ → Bool
+is_operator name = nat_lt 0 (length name) && list_all is_operator_byte name && not (has_pair 45 45 name) && not (has_pair 47 42 name) && may_end name
+
+-- `=>` is no operator, and `!=` is another spelling of `<>`
+abbrev pub is_operator_name : List ℕ → Bool
+is_operator_name name = is_operator name && not (bytes_eq name (codes "=>")) && not (bytes_eq name (codes "!="))

@@ -1,0 +1,201 @@
+//! How names, letters and flags are spelled.
+ghost use Rattle.std.specs.Prelude.{◌≡◌, ◌<◌, IfOk, length, ◌==◌};
+ghost use Rattle.std.specs.List.{list_all, list_any};
+ghost use Rattle.std.specs.Str.{IsAscii};
+ghost use Rattle.xp_catalog.specs.Spelling.{begins_with, has_pair, is_among, is_digit, is_flag, is_letter_of, is_name, is_name_byte, is_operator, is_operator_byte, is_operator_name, is_sign, is_special_byte, is_type_name, letters_of, may_end, number_names, pseudo_names, range_names, text_names};
+
+use std::alloc::Global;
+use xp_base::{Memory, Name};
+
+fn is_digit(b: u8) -> bool
+    ensures { result ≡ is_digit b }
+{
+    b'0' <= b && b <= b'9'
+}
+
+fn is_name_byte(b: u8) -> bool
+    ensures { result ≡ is_name_byte b }
+{
+    (b'a' <= b && b <= b'z') || is_digit(b) || b == b'_'
+}
+
+fn has_name_bytes(name: &[u8]) -> bool
+    ensures { result ≡ list_all is_name_byte name.now }
+{
+    name.iter().all(|b| is_name_byte(*b))
+}
+
+/// Whether the bytes are a name of 1 to 63 lower-case letters, digits and `_`.
+pub fn is_name(name: &[u8]) -> bool
+    ensures { result ≡ is_name name.now }
+{
+    if name.is_empty() {
+        return false;
+    }
+    let first = name[0];
+    name.len() <= 63 && has_name_bytes(name) && !is_digit(first)
+}
+
+fn is_pseudo(name: &[u8]) -> bool
+    ensures { result ≡ is_among pseudo_names name.now }
+{
+    name == b"any".as_slice()
+        || name == b"anyelement".as_slice()
+        || name == b"anyarray".as_slice()
+        || name == b"anynonarray".as_slice()
+        || name == b"anyrange".as_slice()
+        || name == b"anycompatible".as_slice()
+        || name == b"anycompatiblearray".as_slice()
+        || name == b"anycompatiblenonarray".as_slice()
+        || name == b"anycompatiblerange".as_slice()
+}
+
+fn is_range(name: &[u8]) -> bool
+    ensures { result ≡ is_among range_names name.now }
+{
+    name == b"int4range".as_slice()
+        || name == b"int8range".as_slice()
+        || name == b"daterange".as_slice()
+}
+
+/// Whether the bytes may name a plain type.
+pub fn is_type_name(name: &[u8]) -> bool
+    ensures { result ≡ is_type_name name.now }
+{
+    is_name(name) && name != b"unknown".as_slice() && !is_pseudo(name) && !is_range(name)
+}
+
+fn is_number_type(name: &[u8]) -> bool
+    ensures { result ≡ is_among number_names name.now }
+{
+    name == b"int2".as_slice()
+        || name == b"int4".as_slice()
+        || name == b"int8".as_slice()
+        || name == b"numeric".as_slice()
+}
+
+fn is_text_type(name: &[u8]) -> bool
+    ensures { result ≡ is_among text_names name.now }
+{
+    name == b"text".as_slice() || name == b"varchar".as_slice() || name == b"bpchar".as_slice()
+}
+
+fn letters_of(name: &[u8]) -> &'static [u8]
+    ensures { result.now ≡ letters_of name.now }
+{
+    if name == b"bool".as_slice() {
+        b"B"
+    } else if is_number_type(name) {
+        b"N"
+    } else if is_text_type(name) {
+        b"S"
+    } else if name == b"bytea".as_slice() {
+        b"U"
+    } else if name == b"date".as_slice() {
+        b"D"
+    } else {
+        b"BCDEGINSTUVZ"
+    }
+}
+
+/// Whether the byte is one of the bytes.
+fn has_byte(bytes: &[u8], byte: u8) -> bool
+    ensures { result ≡ list_any (λ b. b == byte) bytes.now }
+{
+    bytes.iter().any(|b| *b == byte)
+}
+
+/// Whether the field is the letter of a category that a type of that name may have.
+pub fn is_letter_of(name: &[u8], letter: &[u8]) -> bool
+    ensures { result ≡ is_letter_of name.now letter.now }
+{
+    letter.len() == 1 && has_byte(letters_of(name), letter[0])
+}
+
+pub fn is_flag(flag: &[u8]) -> bool
+    ensures { result ≡ is_flag flag.now }
+{
+    flag == b"t".as_slice() || flag == b"f".as_slice()
+}
+
+fn is_operator_byte(b: u8) -> bool
+    ensures { result ≡ is_operator_byte b }
+{
+    has_byte(b"+-*/<>=~!@#%^&|`?", b)
+}
+
+/// Whether the byte lets an operator end in `+` or `-`.
+fn is_special_byte(b: u8) -> bool
+    ensures { result ≡ is_special_byte b }
+{
+    has_byte(b"~!@#%^&|`?", b)
+}
+
+fn has_special_byte(name: &[u8]) -> bool
+    ensures { result ≡ list_any is_special_byte name.now }
+{
+    name.iter().any(|b| is_special_byte(*b))
+}
+
+fn has_operator_bytes(name: &[u8]) -> bool
+    ensures { result ≡ list_all is_operator_byte name.now }
+{
+    name.iter().all(|b| is_operator_byte(*b))
+}
+
+fn is_sign(b: u8) -> bool
+    ensures { result ≡ is_sign b }
+{
+    b == b'+' || b == b'-'
+}
+
+/// Whether the first byte stands right before the second somewhere.
+fn has_pair(first: u8, second: u8, bytes: &[u8]) -> bool
+    ensures { result ≡ has_pair first second bytes.now }
+{
+    let mut follows = false;
+    for b in bytes {
+        if follows && *b == second {
+            return true;
+        }
+        follows = *b == first;
+    }
+    false
+}
+
+/// Whether a last `+` or `-` is part of the operator (manual 4.1.3).
+fn may_end(name: &[u8]) -> bool
+    requires { 0 < length name.now }
+    ensures { result ≡ may_end name.now }
+{
+    let last = name[name.len() - 1];
+    name.len() == 1 || !is_sign(last) || has_special_byte(name)
+}
+
+fn is_operator(name: &[u8]) -> bool
+    ensures { result ≡ is_operator name.now }
+{
+    !name.is_empty()
+        && has_operator_bytes(name)
+        && !has_pair(b'-', b'-', name)
+        && !has_pair(b'/', b'*', name)
+        && may_end(name)
+}
+
+/// Whether the bytes are one whole operator that a record may name.
+pub fn is_operator_name(name: &[u8]) -> bool
+    ensures { result ≡ is_operator_name name.now }
+{
+    is_operator(name) && name != b"=>".as_slice() && name != b"!=".as_slice()
+}
+
+/// A copy of bytes that are ASCII.
+pub fn new_name(alloc: Global, bytes: &[u8]) -> Result<Name, Memory>
+    requires { IsAscii bytes.now }
+    ensures { IfOk result (λ name. name ≡ bytes.now) }
+{
+    match String::from_utf8_lossy(alloc, bytes) {
+        Ok(text) => Ok(Name::from_string(text)),
+        Err(_) => Err(Memory),
+    }
+}
