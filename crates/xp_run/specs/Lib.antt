@@ -1,0 +1,9 @@
+pub mod Answer
+pub mod Blocks
+pub mod Inputs
+pub mod Integers
+pub mod Resolve
+pub mod Run
+pub mod Status
+pub mod Values
+pub mod Writing

@@ -1,0 +1,45 @@
+//! How a run ends.
+ghost use Rattle.std.specs.Prelude.{◌≡◌};
+ghost use Rattle.xp_run.specs.Status.{status_of};
+
+use xp_catalog::Why;
+
+/// How a run ended.
+#[derive(Clone, Copy, Debug, PartialEq, Eq)]
+pub enum Ending {
+    /// The whole report is written. `steps` is how many machine steps its statements took.
+    Done { steps: u64 },
+    /// The words are no command.
+    BadWords,
+    /// The record of that line, counted from 1, is refused.
+    BadCatalog { line: u32, why: Why },
+    /// A text is longer than its limit; `read` is the limit and one.
+    TooLong { read: u64 },
+    /// The shelf failed, or has no text of that name.
+    ReadFault,
+    /// The sink failed.
+    WriteFault,
+    Memory,
+}
+
+/// How a run ended, and the status of its process.
+#[derive(Clone, Copy, Debug, PartialEq, Eq)]
+pub struct Exit {
+    pub status: u8,
+    pub end: Ending,
+}
+
+/// The exit of a run; `fine` is whether every block ends in `ok`.
+pub fn exit_of(end: Ending, fine: bool) -> Exit
+    ensures end { result.end ≡ end }
+    ensures status { result.status ≡ status_of fine end }
+{
+    let status = match end {
+        Ending::Done { .. } => { if fine { 0 } else { 1 } }
+        Ending::BadWords | Ending::BadCatalog { .. } | Ending::TooLong { .. } => 2,
+        Ending::ReadFault => 3,
+        Ending::WriteFault => 4,
+        Ending::Memory => 5,
+    };
+    Exit { status, end }
+}

@@ -1,0 +1,67 @@
+//! Loads the texts of a run.
+ghost use Rattle.std.specs.Prelude.{◌≡◌, ◌≤◌, IfOk, length};
+ghost use Rattle.xp_base.specs.Growth.{Rose};
+ghost use Rattle.xp_run.specs.Inputs.{Reads, catalog_in, inputs_in, text_in};
+
+use crate::ending::Ending;
+use std::alloc::Global;
+use xp_base::{Byts, CATALOG_LIMIT, LoadFault, SCRIPT_LIMIT, Shelf};
+use xp_catalog::{CatFault, Catalog, load};
+
+/// What a run works on.
+#[derive(Drop)]
+pub struct Inputs {
+    pub catalog: Catalog,
+    pub script: Byts,
+}
+
+fn load_text<F: Shelf>(alloc: Global, name: &str, limit: u64, shelf: &mut F) -> Result<Byts, Ending>
+    ensures answer { Reads (F.held shelf.old) (λ files. text_in files name.now limit) (Rose (F.faults shelf.old) (F.faults shelf.new)) result }
+    ensures short { IfOk result (λ text. length text ≤ limit) }
+    ensures same { F.held shelf.new ≡ F.held shelf.old }
+    ensures rises { F.faults shelf.old ≤ F.faults shelf.new }
+{
+    match shelf.load(alloc, name, limit) {
+        Ok(text) => Ok(text),
+        Err(LoadFault::Failed) => Err(Ending::ReadFault),
+        Err(LoadFault::TooLong { read }) => Err(Ending::TooLong { read }),
+        Err(LoadFault::Memory) => Err(Ending::Memory),
+    }
+}
+
+fn load_catalog<F: Shelf>(alloc: Global, name: &str, shelf: &mut F) -> Result<Catalog, Ending>
+    ensures answer { Reads (F.held shelf.old) (λ files. catalog_in files name.now) (Rose (F.faults shelf.old) (F.faults shelf.new)) result }
+    ensures same { F.held shelf.new ≡ F.held shelf.old }
+    ensures rises { F.faults shelf.old ≤ F.faults shelf.new }
+{
+    let text = match load_text(alloc, name, CATALOG_LIMIT, shelf) {
+        Ok(text) => text,
+        Err(end) => return Err(end),
+    };
+    match load(alloc, text.as_slice()) {
+        Ok(catalog) => Ok(catalog),
+        Err(CatFault::Row { line, why }) => Err(Ending::BadCatalog { line, why }),
+        Err(CatFault::Memory) => Err(Ending::Memory),
+    }
+}
+
+/// Loads the catalogue, and then the script.
+pub fn load_inputs<F: Shelf>(
+    alloc: Global,
+    catalog: &str,
+    script: &str,
+    shelf: &mut F,
+) -> Result<Inputs, Ending>
+    ensures answer { Reads (F.held shelf.old) (λ files. inputs_in files (record { catalog = catalog.now; script = script.now })) (Rose (F.faults shelf.old) (F.faults shelf.new)) result }
+    ensures same { F.held shelf.new ≡ F.held shelf.old }
+    ensures rises { F.faults shelf.old ≤ F.faults shelf.new }
+{
+    let catalog = match load_catalog(alloc, catalog, shelf) {
+        Ok(catalog) => catalog,
+        Err(end) => return Err(end),
+    };
+    match load_text(alloc, script, SCRIPT_LIMIT, shelf) {
+        Ok(script) => Ok(Inputs { catalog, script }),
+        Err(end) => Err(end),
+    }
+}

@@ -1,0 +1,20 @@
+//! The run: a catalogue and a script in, the report on them out.
+#![tactic(auto)]
+
+mod answer;
+mod blocks;
+mod ending;
+mod inputs;
+mod integers;
+mod lines;
+mod program;
+mod report;
+mod resolve;
+mod value;
+mod words;
+
+pub use ending::{Ending, Exit};
+pub use program::run;
+
+#[cfg(test)]
+mod tests;
