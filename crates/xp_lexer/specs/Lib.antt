@@ -1,0 +1,4 @@
+pub mod Bytes
+pub mod Cutting
+pub mod Lexemes
+pub mod Words

@@ -1,0 +1,15 @@
+//! The tokens of the script language (manual 4.1).
+#![tactic(auto)]
+
+mod bytes;
+mod names;
+mod numbers;
+mod operators;
+mod quoted;
+mod space;
+mod token;
+mod trouble;
+mod words;
+
+pub use token::{LexFault, Lexed, Mark, Token, TokenKind, Tokens};
+pub use words::Word;
