@@ -1,3 +1,4 @@
 pub mod Ascii
+pub mod Parts
 pub mod Powers
 pub mod Quotes

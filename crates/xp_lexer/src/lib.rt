@@ -5,6 +5,7 @@ mod bytes;
 mod names;
 mod numbers;
 mod operators;
+mod pieces;
 mod quoted;
 mod space;
 mod token;

@@ -1,6 +1,7 @@
 //! Operators.
 ghost use Rattle.std.specs.Prelude.{◌≡◌, ◌+◌, ◌<◌, ◌≤◌, max, length, take, drop, slice_index, true, false};
 ghost use Rattle.std.specs.Str.{IsAscii};
+ghost use Rattle.xp_lexer.specs.Bytes.{first, is_operator_byte};
 ghost use Rattle.xp_lexer.specs.Cutting as spec;
 ghost use Rattle.xp_lexer.specs.Lexemes.{seen};
 
@@ -61,4 +62,14 @@ fn cut(alloc: Global, len: usize, z: &[u8]) -> Result<(TokenKind, &[u8]), Troubl
         Ok(name) => Ok((TokenKind::Operator(name), rest)),
         Err(_) => Err(Trouble::Memory),
     }
+}
+
+/// The operator at the front. Where it stands `alone`, it is one sign behind an operator.
+#[tactic(auto, using(crate::proofs::Ascii::operator_ascii, crate::proofs::Ascii::operator_one_ascii), unfolding(crate::specs::Cutting::operator))]
+pub fn operator(alloc: Global, alone: bool, z: &[u8]) -> Result<(TokenKind, &[u8]), Trouble>
+    requires { is_operator_byte (first z.now) ≡ true }
+    ensures { spec.Gives (λ x. (seen x.0, x.1.now)) result (spec.operator alone z.now) }
+{
+    let len = if alone { 1 } else { operator_len(z) };
+    cut(alloc, len, z)
 }

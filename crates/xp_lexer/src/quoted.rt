@@ -106,6 +106,7 @@ fn part(alloc: Global, quote: u8, z: &[u8]) -> Result<(String, &[u8]), Trouble>
 }
 
 /// The text with all parts of the constant that follow.
+#[tactic(auto, using(crate::proofs::Parts::all_parts_end, crate::proofs::Parts::all_parts_more))]
 fn all_parts(alloc: Global, mut text: String, mut z: &[u8]) -> Result<(String, &[u8]), Trouble>
     requires { length z.now < 2 ^ 63 }
     ensures value { spec.Gives (λ x. (string_bytes x.0, x.1.now)) result (spec.all_parts (string_bytes text) z.entry.now) }
