@@ -8,10 +8,13 @@ use Rattle.xp_lexer.specs.declared.numbers.Exponent.{Exponent}
 use Rattle.xp_lexer.specs.declared.numbers.Exponent.TheVariants as shift
 use Rattle.xp_lexer.specs.declared.trouble.Trouble.{Trouble}
 use Rattle.xp_lexer.specs.declared.trouble.Trouble.TheVariants as trouble
+use Rattle.xp_lexer.specs.declared.token.Lexed.{Lexed}
+use Rattle.xp_lexer.specs.declared.token.LexFault.{LexFault}
+use Rattle.xp_lexer.specs.declared.token.LexFault.TheVariants as fault
 use Rattle.xp_lexer.specs.declared.token.Mark.TheVariants as mark
 use Rattle.xp_lexer.specs.declared.token.Mark.{Mark}
 use Rattle.xp_lexer.specs.declared.words.Word.{Word}
-use Rattle.xp_lexer.specs.Lexemes.{Lexeme, Placed, NameOf, QuotedName, Reserved, Constant, NumberOf, TooWide, OperatorOf, MarkOf, EndOf}
+use Rattle.xp_lexer.specs.Lexemes.{Lexeme, Placed, all_placed, NameOf, QuotedName, Reserved, Constant, NumberOf, TooWide, OperatorOf, MarkOf, EndOf}
 use Rattle.xp_lexer.specs.Words.{word_named}
 use Rattle.xp_lexer.specs.Bytes.{Text, first, is_space, is_decimal, begins_name, is_name_byte, is_sign, is_free, is_operator_byte, opens_comment}
 
@@ -316,19 +319,50 @@ Statement = Result (List Placed × Text) Trouble
 abbrev pub with_front : List Placed → Statement → Statement
 with_front front read = read >>= (λ q. Ok (front ++ q.0, q.1))
 
--- what follows a piece; `room` is how many tokens there may be
-abbrev pub onward : (ℕ → Bool → Text → Statement) → ℕ → ℕ → Text → Option Lexeme × Text → Statement
-onward go total room z (None, rest) = go room false rest
-onward go total room z (Some k, rest) =
+-- whether one token more may stand between the text and its rest, where `room` is how many there may be
+unfoldable pub admitted : ℕ → Text → Text → Lexeme → Result (Unit {0}) Trouble
+admitted room z rest k =
+    if room == 0 then Err (trouble.TooManyTokens (length z)) else (if is_glued k rest then Err (trouble.BadByte (length rest)) else Ok tt)
+
+-- what follows a piece
+abbrev pub onward : (ℕ → Bool → Text → Statement) → ℕ → ℕ → Text → Option Lexeme → Text → Statement
+onward go total room z None rest = go room false rest
+onward go total room z (Some k) rest =
     if is_end k then Ok (token_at total z rest k ∷ [], rest)
-    else (if room == 0 then Err (trouble.TooManyTokens (length z))
-    else (if is_glued k rest then Err (trouble.BadByte (length rest))
-    else with_front (token_at total z rest k ∷ []) (go (room - 1) (is_operator k) rest)))
+    else admitted room z rest k >>= (λ _. with_front (token_at total z rest k ∷ []) (go (room - 1) (is_operator k) rest))
 
 -- the statement in at most n pieces
 abbrev pub pieces : ℕ → ℕ → ℕ → Bool → Text → Statement
 pieces zero total room alone z = Err trouble.Memory
-pieces (suc n) total room alone z = piece alone z >>= (λ p. onward (pieces n total) total room z p)
+pieces (suc n) total room alone z = piece alone z >>= (λ p. onward (pieces n total) total room z p.0 p.1)
 
+-- the tokens of a statement with its end, and the text behind it; behind an operator a sign stands alone
 unfoldable pub statement : ℕ → ℕ → Bool → Text → Statement
 statement total room alone z = pieces (suc (length z)) total room alone z
+
+-- the place where so many bytes are left
+abbrev pub fault_of : ℕ → Trouble → LexFault
+fault_of total (trouble.BadByte left) = fault.BadByte (total - left)
+fault_of total (trouble.Unclosed left) = fault.Unclosed (total - left)
+fault_of total (trouble.TooManyTokens left) = fault.TooManyTokens (total - left)
+fault_of total trouble.Memory = fault.Memory
+
+-- the tokens of a statement and the place behind it, or the fault
+abbrev pub Answer : Type 0
+Answer = Result (List Placed × ℕ) LexFault
+
+abbrev pub finished : ℕ → Statement → Answer
+finished total (Ok q) = Ok (q.0, total - length q.1)
+finished total (Err t) = Err (fault_of total t)
+
+-- the statement of the text that begins at this place
+unfoldable pub lexed : Text → ℕ → Answer
+lexed text from = finished (length text) (statement (length text) 20000 false (drop from text))
+
+-- what `lex` returned is that answer, unless memory ran out
+abbrev pub Answers : Result Lexed LexFault → Answer → Type 0
+Answers (Ok l) answer = answer ≡ Ok (all_placed l.tokens, l.next)
+Answers (Err fault.Memory) answer = Unit {0}
+Answers (Err (fault.BadByte at)) answer = answer ≡ Err (fault.BadByte at)
+Answers (Err (fault.Unclosed start)) answer = answer ≡ Err (fault.Unclosed start)
+Answers (Err (fault.TooManyTokens at)) answer = answer ≡ Err (fault.TooManyTokens at)

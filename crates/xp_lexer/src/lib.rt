@@ -2,6 +2,7 @@
 #![tactic(auto)]
 
 mod bytes;
+mod lexing;
 mod names;
 mod numbers;
 mod operators;
@@ -12,5 +13,6 @@ mod token;
 mod trouble;
 mod words;
 
+pub use lexing::lex;
 pub use token::{LexFault, Lexed, Mark, Token, TokenKind, Tokens};
 pub use words::Word;
