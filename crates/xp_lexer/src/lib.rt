@@ -16,3 +16,6 @@ mod words;
 pub use lexing::lex;
 pub use token::{LexFault, Lexed, Mark, Token, TokenKind, Tokens};
 pub use words::Word;
+
+#[cfg(test)]
+mod tests;
