@@ -1,5 +1,5 @@
 -- The parts of a string constant, one after the other.
-use Rattle.std.proofs.Common.{◌≡◌, ℕ, zero, suc, ◌+◌, ◌-◌, ◌<◌, ◌≤◌, Bool, true, false, not, ◌&&◌, ◌||◌, ◌==◌, cond, List, [], ◌∷◌, ◌++◌, length, take, drop, Option, Some, None, Result, Ok, Err, refl, sym, ap, subst, ◌∙◌, arith}
+use Rattle.std.proofs.Common.{◌≡◌, ℕ, zero, suc, ◌+◌, ◌<◌, ◌≤◌, Bool, true, false, not, ◌&&◌, ◌||◌, ◌==◌, cond, [], ◌∷◌, ◌++◌, length, take, drop, Option, Some, None, Result, Ok, Err, refl, sym, subst, ◌∙◌, arith}
 use Rattle.std.specs.Prelude.{nat_lt}
 use Rattle.std.proofs.lemmas.List.{length-drop}
 use Rattle.xp_lexer.specs.declared.trouble.Trouble.{Trouble}
@@ -26,6 +26,7 @@ part_shorter quote z p e = by (raw_len quote false 0 z) refl e
     chosen : (n : ℕ) (v : Bool) (t : Trouble) → 0 < length z → cond v (Err t) (Ok (undoubled quote false (take n z), drop (n + 1) z)) ≡ Ok p → length p.1 < length z
     chosen n true t some e = absurd cc
     chosen n false t some e = let q : (undoubled quote false (take n z), drop (n + 1) z) ≡ p = cc in subst (λ (y : Text × Text). length y.1 < length z) q (omega (arith, length-drop (n + 1) z))
+
     by : (o : Option ℕ) → raw_len quote false 0 z ≡ o → part_of quote z o ≡ Ok p → length p.1 < length z
     by None was e = absurd cc
     by (Some n) was e = chosen n (nat_lt (clean_len (take n z)) n) _ (raw_len_some quote z n was) e

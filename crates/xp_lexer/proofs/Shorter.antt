@@ -1,20 +1,17 @@
 -- Each piece that is no end takes bytes away.
-use Rattle.std.proofs.Common.{◌≡◌, ℕ, zero, suc, ◌+◌, ◌-◌, ◌*◌, ◌^◌, ◌<◌, ◌≤◌, min, Bool, true, false, not, ◌&&◌, ◌||◌, ◌==◌, cond, List, [], ◌∷◌, ◌++◌, length, take, drop, Option, Some, None, Result, Ok, Err, refl, sym, ap, subst, ◌∙◌, arith}
+use Rattle.std.proofs.Common.{◌≡◌, ℕ, zero, suc, ◌+◌, ◌-◌, ◌<◌, ◌≤◌, Bool, true, false, not, ◌&&◌, ◌||◌, ◌==◌, cond, [], ◌∷◌, ◌++◌, length, drop, Option, Some, None, Ok, Err, refl, sym, ap, subst, ◌∙◌, arith}
 use Rattle.std.specs.Prelude.{nat_lt, slice_index}
 use Rattle.std.specs.Char.{digit_value, is_digit}
-use Rattle.std.specs.List.{prefix_len}
 use Rattle.std.proofs.lemmas.Bool.{and_parts}
 use Rattle.std.proofs.lemmas.Bool.Decides.{nat_tests}
 use Rattle.std.proofs.lemmas.List.{length-drop}
-use Rattle.xp_lexer.specs.declared.trouble.Trouble.{Trouble}
 use Rattle.xp_lexer.specs.declared.trouble.Trouble.TheVariants as trouble
-use Rattle.xp_lexer.specs.declared.numbers.Exponent.{Exponent}
 use Rattle.xp_lexer.specs.declared.token.Mark.{Mark}
 use Rattle.xp_lexer.specs.declared.token.Mark.TheVariants as mark
 use Rattle.xp_lexer.specs.declared.numbers.Exponent.TheVariants as shift
 use Rattle.xp_lexer.specs.Bytes.{Text, first, is_space, is_decimal, begins_name, is_name_byte, is_operator_byte, is_sign, is_free, opens_comment}
 use Rattle.xp_lexer.specs.Lexemes.{Lexeme, QuotedName, Constant, MarkOf, EndOf}
-use Rattle.xp_lexer.specs.Cutting.{◌>>=◌, line_rest, comment_rest, behind_comment, comment, digits, extended, decimals, fraction, sign, exponent_digits, exponent_at, decimal, number, names_base, base_of, number_of, decimal_of, name_len, name, cut, operator, operator_len, goes_on, part, more_parts, then_more, continued, all_parts, string, quoted_name, is_prefix, word, one_byte, mark_at, begins_number, token, piece, is_end}
+use Rattle.xp_lexer.specs.Cutting.{◌>>=◌, line_rest, comment_rest, behind_comment, comment, digits, extended, decimals, fraction, sign, exponent_digits, exponent_at, decimal, number, names_base, base_of, number_of, name_len, name, cut, operator, operator_len, goes_on, part, more_parts, then_more, continued, all_parts, string, quoted_name, is_prefix, word, one_byte, mark_at, begins_number, token, piece, is_end}
 use Rattle.xp_lexer.proofs.Parts.{bind_ok, part_shorter, continued_within}
 
 line_within : (z : Text) → length (line_rest z) ≤ length z
@@ -260,6 +257,7 @@ piece_shorter alone (b ∷ z) p e =
   where
     one : (rest : Text) → length rest < length (b ∷ z) → rest ≡ p.1 → (length p.1 ≤ length (b ∷ z)) × (goes_on_behind p.0 ≡ true → length p.1 < length (b ∷ z))
     one rest h q = (omega (arith, ap length q), λ g. omega (arith, ap length q))
+
     by : (t u v : Bool)
         → cond t (Ok (None, z)) (cond u (comment (b ∷ z) >>= (λ rest. Ok (None, rest))) (cond v (Ok (Some EndOf, z)) (token alone (b ∷ z) >>= (λ p. Ok (Some p.0, p.1))))) ≡ Ok p
         → (length p.1 ≤ length (b ∷ z)) × (goes_on_behind p.0 ≡ true → length p.1 < length (b ∷ z))

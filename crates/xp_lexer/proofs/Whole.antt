@@ -1,12 +1,12 @@
 -- A statement, piece by piece.
-use Rattle.std.proofs.Common.{◌≡◌, ℕ, zero, suc, ◌+◌, ◌-◌, ◌<◌, ◌≤◌, Bool, true, false, not, ◌==◌, cond, List, [], ◌∷◌, ◌++◌, length, Option, Some, None, Result, Ok, Err, refl, sym, ap, subst, ◌∙◌, arith, append_assoc}
+use Rattle.std.proofs.Common.{◌≡◌, ℕ, zero, suc, ◌-◌, ◌<◌, ◌≤◌, Bool, true, false, not, cond, List, [], ◌∷◌, ◌++◌, length, Option, Some, None, Result, Ok, Err, refl, sym, ap, subst, ◌∙◌, arith, append_assoc}
 use Rattle.xp_lexer.specs.declared.trouble.Trouble.{Trouble}
 use Rattle.xp_lexer.specs.declared.trouble.Trouble.TheVariants as trouble
 use Rattle.xp_lexer.specs.Bytes.{Text}
 use Rattle.std.proofs.lemmas.List.{map-append}
 use Rattle.xp_lexer.specs.declared.token.Token.{Token}
 use Rattle.xp_lexer.specs.Lexemes.{Lexeme, Placed, placed, all_placed}
-use Rattle.xp_lexer.specs.Cutting.{◌>>=◌, Fails, piece, is_end, is_glued, is_operator, token_at, with_front, admitted, onward, pieces, Statement, statement}
+use Rattle.xp_lexer.specs.Cutting.{◌>>=◌, Fails, piece, is_end, is_operator, token_at, with_front, admitted, onward, pieces, Statement, statement}
 use Rattle.xp_lexer.proofs.Parts.{bind_same}
 use Rattle.xp_lexer.proofs.Shorter.{goes_on_behind, piece_shorter}
 
@@ -23,6 +23,7 @@ pieces_fuel (suc n) (suc m) total room alone z h k =
         ≡ cond v (Ok (token_at total z rest k ∷ [], rest)) (admitted room z rest k >>= (λ _. with_front (token_at total z rest k ∷ []) (pieces m total (room - 1) (is_operator k) rest)))
     same g x rest true s = refl
     same g x rest false s = ap (λ r. admitted room z rest x >>= (λ _. with_front (token_at total z rest x ∷ []) r)) (g (room - 1) (is_operator x) rest (omega (arith, s refl)) (omega (arith, s refl)))
+
     by : ((room : ℕ) (alone : Bool) (z : Text) → length z < n → length z < m → pieces n total room alone z ≡ pieces m total room alone z)
         → (o : Option Lexeme) (rest : Text) → (goes_on_behind o ≡ true → length rest < length z) → onward (pieces n total) total room z o rest ≡ onward (pieces m total) total room z o rest
     by g None rest s = g room false rest (omega (arith, s refl)) (omega (arith, s refl))

@@ -1,6 +1,5 @@
 -- Tokens as plain data: what the tokens of a statement are, without the proofs that a number keeps (manual 4.1).
 use Rattle.std.specs.Prelude.{ℕ, Bool, List, map}
-use Rattle.xp_base.specs.declared.numbers.Span.{Span}
 use Rattle.xp_lexer.specs.Bytes.{Text}
 use Rattle.xp_lexer.specs.declared.words.Word.{Word}
 use Rattle.xp_lexer.specs.declared.token.Mark.{Mark}

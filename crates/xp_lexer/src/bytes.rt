@@ -36,13 +36,7 @@ pub fn is_name_byte(b: u8) -> bool
 pub fn is_operator_byte(b: u8) -> bool
     ensures { result ≡ spec.is_operator_byte b }
 {
-    is_sign(b)
-        || is_free(b)
-        || b == b'*'
-        || b == b'/'
-        || b == b'<'
-        || b == b'>'
-        || b == b'='
+    is_sign(b) || is_free(b) || b == b'*' || b == b'/' || b == b'<' || b == b'>' || b == b'='
 }
 
 pub fn is_sign(b: u8) -> bool

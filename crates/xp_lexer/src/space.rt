@@ -2,8 +2,7 @@
 ghost use Rattle.std.specs.Prelude.{◌≡◌, ◌<◌, ◌≤◌, ◌^◌, length, option_map, IfSome, false};
 ghost use Rattle.xp_lexer.specs.Cutting as spec;
 
-use crate::bytes::byte;
-use crate::bytes::is_space;
+use crate::bytes::{byte, is_space};
 
 /// The text from the end of the line on.
 pub fn line_rest(mut z: &[u8]) -> &[u8]

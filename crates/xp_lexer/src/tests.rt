@@ -6,7 +6,10 @@ use std::process::Abort;
 use std::test::Fail;
 
 const ROWS: [(&[u8], &str); 98] = [
-    (b"a<=-1", "0-1 a, 1-3 op <=, 3-4 op -, 4-5 1/0 whole, 5-5 end, next 5"),
+    (
+        b"a<=-1",
+        "0-1 a, 1-3 op <=, 3-4 op -, 4-5 1/0 whole, 5-5 end, next 5",
+    ),
     (b"@-1", "0-2 op @-, 2-3 1/0 whole, 3-3 end, next 3"),
     (b"1e-3", "0-4 1/3, 4-4 end, next 4"),
     (b"1.5e3", "0-5 1500/0, 5-5 end, next 5"),
@@ -17,16 +20,34 @@ const ROWS: [(&[u8], &str); 98] = [
     (b"", "0-0 end, next 0"),
     (b";;", "0-1 end, next 1"),
     (b"a;b", "0-1 a, 1-2 end, next 2"),
-    (b"'abc' || 'def'", "0-5 'abc', 6-8 op ||, 9-14 'def', 14-14 end, next 14"),
+    (
+        b"'abc' || 'def'",
+        "0-5 'abc', 6-8 op ||, 9-14 'def', 14-14 end, next 14",
+    ),
     (b"|/ 40", "0-2 op |/, 3-5 40/0 whole, 5-5 end, next 5"),
     (b"@ '-4.5'", "0-1 op @, 2-8 '-4.5', 8-8 end, next 8"),
-    (b"~ CAST('20' AS int8)", "0-1 op ~, 2-6 Cast, 6-7 OpenParen, 7-11 '20', 12-14 As, 15-19 int8, 19-20 CloseParen, 20-20 end, next 20"),
-    (b"array[1,2] <@ '{1}'", "0-5 Array, 5-6 OpenBracket, 6-7 1/0 whole, 7-8 Comma, 8-9 2/0 whole, 9-10 CloseBracket, 11-13 op <@, 14-19 '{1}', 19-19 end, next 19"),
-    (b"-2147483648::int4", "0-1 op -, 1-11 2147483648/0 whole, 11-13 DoubleColon, 13-17 int4, 17-17 end, next 17"),
+    (
+        b"~ CAST('20' AS int8)",
+        "0-1 op ~, 2-6 Cast, 6-7 OpenParen, 7-11 '20', 12-14 As, 15-19 int8, 19-20 CloseParen, 20-20 end, next 20",
+    ),
+    (
+        b"array[1,2] <@ '{1}'",
+        "0-5 Array, 5-6 OpenBracket, 6-7 1/0 whole, 7-8 Comma, 8-9 2/0 whole, 9-10 CloseBracket, 11-13 op <@, 14-19 '{1}', 19-19 end, next 19",
+    ),
+    (
+        b"-2147483648::int4",
+        "0-1 op -, 1-11 2147483648/0 whole, 11-13 DoubleColon, 13-17 int4, 17-17 end, next 17",
+    ),
     (b" SELECT 'ab", "unclosed 8"),
     (b"text '\\N'", "0-4 text, 5-9 '\\N', 9-9 end, next 9"),
-    (b"1.0/3", "0-3 10/1, 3-4 op /, 4-5 3/0 whole, 5-5 end, next 5"),
-    (b"select SeLeCt \"select\"", "0-6 Select, 7-13 Select, 14-22 \"select\", 22-22 end, next 22"),
+    (
+        b"1.0/3",
+        "0-3 10/1, 3-4 op /, 4-5 3/0 whole, 5-5 end, next 5",
+    ),
+    (
+        b"select SeLeCt \"select\"",
+        "0-6 Select, 7-13 Select, 14-22 \"select\", 22-22 end, next 22",
+    ),
     (b"Ab_9 _X", "0-4 ab_9, 5-7 _x, 7-7 end, next 7"),
     (b"\"Ab\"", "0-4 \"Ab\", 4-4 end, next 4"),
     (b"1.", "0-2 1/0, 2-2 end, next 2"),
@@ -50,15 +71,33 @@ const ROWS: [(&[u8], &str); 98] = [
     (b"1._5", "bad 2"),
     (b"1a", "bad 1"),
     (b"1 a", "0-1 1/0 whole, 2-3 a, 3-3 end, next 3"),
-    (b"99999999999999999999999999999999999999", "0-38 99999999999999999999999999999999999999/0 whole, 38-38 end, next 38"),
-    (b"100000000000000000000000000000000000000", "0-39 wide, 39-39 end, next 39"),
-    (b"00000000000000000000000000000000000000007", "0-41 7/0 whole, 41-41 end, next 41"),
-    (b"0xffffffffffffffffffffffffffffffff", "0-34 wide, 34-34 end, next 34"),
-    (b"1e37", "0-4 10000000000000000000000000000000000000/0, 4-4 end, next 4"),
+    (
+        b"99999999999999999999999999999999999999",
+        "0-38 99999999999999999999999999999999999999/0 whole, 38-38 end, next 38",
+    ),
+    (
+        b"100000000000000000000000000000000000000",
+        "0-39 wide, 39-39 end, next 39",
+    ),
+    (
+        b"00000000000000000000000000000000000000007",
+        "0-41 7/0 whole, 41-41 end, next 41",
+    ),
+    (
+        b"0xffffffffffffffffffffffffffffffff",
+        "0-34 wide, 34-34 end, next 34",
+    ),
+    (
+        b"1e37",
+        "0-4 10000000000000000000000000000000000000/0, 4-4 end, next 4",
+    ),
     (b"1e38", "0-4 wide, 4-4 end, next 4"),
     (b"1e-38", "0-5 1/38, 5-5 end, next 5"),
     (b"1e-39", "0-5 wide, 5-5 end, next 5"),
-    (b"0e99999999999999999999999999999999999999999", "0-43 0/0, 43-43 end, next 43"),
+    (
+        b"0e99999999999999999999999999999999999999999",
+        "0-43 0/0, 43-43 end, next 43",
+    ),
     (b"0e-39", "0-5 wide, 5-5 end, next 5"),
     (b"1.25e1", "0-6 125/1, 6-6 end, next 6"),
     (b"a$", "bad 1"),
@@ -79,7 +118,10 @@ const ROWS: [(&[u8], &str); 98] = [
     (b"*/*", "unclosed 1"),
     (b"+--1\n2", "0-1 op +, 5-6 2/0 whole, 6-6 end, next 6"),
     (b"@-", "0-2 op @-, 2-2 end, next 2"),
-    (b"<=-1", "0-2 op <=, 2-3 op -, 3-4 1/0 whole, 4-4 end, next 4"),
+    (
+        b"<=-1",
+        "0-2 op <=, 2-3 op -, 3-4 1/0 whole, 4-4 end, next 4",
+    ),
     (b"+-+", "0-1 op +, 1-2 op -, 2-3 op +, 3-3 end, next 3"),
     (b"*-+-@", "0-5 op *-+-@, 5-5 end, next 5"),
     (b"!=", "0-2 op <>, 2-2 end, next 2"),

@@ -24,10 +24,7 @@ pub enum TokenKind {
     /// The text of a string constant.
     Str(Txt),
     /// A number; whole where it has neither a point nor an exponent.
-    Number {
-        value: Dec,
-        whole: bool,
-    },
+    Number { value: Dec, whole: bool },
     /// A number of more than 38 digits or decimals.
     Wide,
     /// An operator, `!=` as `<>`.

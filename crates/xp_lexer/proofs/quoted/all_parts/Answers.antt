@@ -1,8 +1,7 @@
-use Rattle.std.proofs.Common.{◌≡◌, sym, ◌∙◌, ◌++◌, ◌-◌, drop, take, length, string_bytes, ap, arith}
+use Rattle.std.proofs.Common.{string_bytes, arith}
 use Rattle.std.proofs.lemmas.Grind.{common_steps}
 use Rattle.std.proofs.lemmas.List.{take_rest, length-drop}
 use Rattle.std.proofs.lemmas.Result.{err_from_is_err_and}
-use Rattle.xp_lexer.specs.Cutting.{all_parts}
 use Rattle.xp_lexer.proofs.Parts.{all_parts_goes, all_parts_fails}
 use Rattle.xp_lexer.proofs.quoted.all_parts.Goals as goal
 

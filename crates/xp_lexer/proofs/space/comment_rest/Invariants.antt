@@ -1,4 +1,4 @@
-use Rattle.std.proofs.Common.{◌≡◌, ℕ, ◌+◌, ◌≤◌, false, length}
+use Rattle.std.proofs.Common.{◌≡◌, ◌+◌, ◌≤◌, false, length}
 use Rattle.xp_lexer.specs.Cutting.{comment_rest}
 use Rattle.xp_lexer.proofs.space.comment_rest.Given as goal
 
