@@ -5,7 +5,8 @@ use Rattle.std.proofs.lemmas.Bool.Decides.{nat_tests}
 use Rattle.std.specs.List.{prefix_len}
 use Rattle.std.specs.Str.{IsAscii}
 use Rattle.xp_lexer.specs.Bytes.{Text, first, is_name_byte, is_operator_byte, is_sign, is_free, opens_comment}
-use Rattle.xp_lexer.specs.Cutting.{goes_on, operator_len}
+use Rattle.xp_lexer.specs.Cutting.{operator_len}
+use Rattle.xp_lexer.specs.Meaning.{goes_on}
 
 at_place : (b : ℕ) (z : Text) → b < 128 → IsAscii z → IsAscii (b ∷ z)
 at_place b z low h zero = low

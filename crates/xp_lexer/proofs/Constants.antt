@@ -1,14 +1,15 @@
 -- String constants: the function finds what the definition says, and nothing else.
-use Rattle.std.proofs.Common.{◌≡◌, ℕ, zero, suc, ◌+◌, ◌-◌, ◌<◌, ◌≤◌, Bool, true, false, not, ◌&&◌, ◌||◌, ◌==◌, cond, List, [], ◌∷◌, ◌++◌, length, take, drop, Option, Some, None, Result, Ok, Err, ◌⊎◌, inl, inr, refl, sym, ap, subst, ◌∙◌, arith, append_assoc}
+use Rattle.std.proofs.Common.{◌≡◌, ℕ, zero, suc, ◌+◌, ◌-◌, ◌<◌, ◌≤◌, Bool, true, false, not, ◌&&◌, ◌||◌, ◌==◌, cond, [], ◌∷◌, ◌++◌, length, Option, Some, None, Result, Ok, Err, ◌⊎◌, inl, inr, refl, sym, ap, subst, ◌∙◌, arith, append_assoc}
 use Rattle.std.proofs.lemmas.Bool.{and_parts}
 use Rattle.std.proofs.lemmas.Bool.Decides.{nat_tests}
 use Rattle.xp_lexer.specs.declared.trouble.Trouble.{Trouble}
 use Rattle.xp_lexer.specs.declared.trouble.Trouble.TheVariants as trouble
-use Rattle.xp_lexer.specs.Bytes.{Text, first, is_space}
-use Rattle.xp_lexer.specs.Cutting.{◌>>=◌, clean_len, continued, part, all_parts, string}
-use Rattle.xp_lexer.specs.Lexemes.{Lexeme, Constant}
-use Rattle.xp_lexer.specs.Grammar.{Quoted, IsClean, IsOpen, Continues, Parts, BadParts}
-use Rattle.xp_lexer.proofs.Parts.{part_shorter, continued_within, all_parts_end, all_parts_more}
+use Rattle.xp_lexer.specs.Bytes.{Text, is_space}
+use Rattle.xp_lexer.specs.Cutting.{◌>>=◌, continued, part, all_parts, string}
+use Rattle.xp_lexer.specs.Meaning.{clean_len}
+use Rattle.xp_lexer.specs.Lexemes.{Constant}
+use Rattle.xp_lexer.specs.Grammar.{Quoted, IsClean, Continues, Parts, BadParts}
+use Rattle.xp_lexer.proofs.Parts.{continued_within, all_parts_end, all_parts_more}
 use Rattle.xp_lexer.proofs.Quoting.{quoted_cases, clean_cases, part_is, part_spoilt, part_open}
 
 both_false : (v w : Bool) → w ≡ false → (v && w) ≡ false
@@ -32,6 +33,7 @@ continues_found s (b ∷ z) q e = by (s && b == 39) refl (is_space b) refl (cont
     at : (t : Bool) → t ≡ true → 39 ≡ b → b ∷ z ≡ q → GoesOn t (b ∷ z) q
     at true f g h = (z, sym h ∙ ap (λ x. x ∷ z) (sym g), subst (λ x. Continues true (x ∷ z) z) g (Continues.at_quote z))
     at false f g h = absurd cc
+
     by : (v : Bool) → (s && b == 39) ≡ v → (w : Bool) → is_space b ≡ w → (continued (s || b == 10) z ≡ Some q → GoesOn (s || b == 10) z q)
         → cond v (Some (b ∷ z)) (cond (not w) None (continued (s || b == 10) z)) ≡ Some q → GoesOn s (b ∷ z) q
     by true f w g more e = let p = and_parts s (b == 39) f in let n : (b == 39) ≡ true = p.1 in at s p.0 (grind (arith, nat_tests)) (cc)

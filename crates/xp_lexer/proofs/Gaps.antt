@@ -1,7 +1,7 @@
 -- White space and comments: the function finds what the definition says, and nothing else.
-use Rattle.std.proofs.Common.{◌≡◌, ℕ, zero, suc, ◌+◌, ◌-◌, ◌<◌, ◌≤◌, Bool, true, false, not, ◌&&◌, ◌||◌, ◌==◌, cond, List, [], ◌∷◌, length, drop, Option, Some, None, refl, sym, ap, subst, ◌∙◌, arith, inl, inr}
+use Rattle.std.proofs.Common.{◌≡◌, ℕ, ◌+◌, ◌-◌, ◌<◌, Bool, true, false, ◌&&◌, ◌==◌, cond, [], ◌∷◌, Option, Some, None, refl, sym, subst, ◌∙◌, arith}
 use Rattle.std.proofs.lemmas.Bool.Decides.{nat_tests}
-use Rattle.xp_lexer.specs.Bytes.{Text, first, is_space}
+use Rattle.xp_lexer.specs.Bytes.{Text}
 use Rattle.xp_lexer.specs.Cutting.{line_rest, comment_rest}
 use Rattle.xp_lexer.specs.Grammar.{Line, Comments}
 
@@ -52,16 +52,20 @@ comments_found n (b ∷ c ∷ z) rest e = by (n == 0) refl (comments_found (n + 
   where
     pair_first : (p q : ℕ) → (b == p && c == q) ≡ true → p ≡ b
     pair_first p q h = grind (arith, nat_tests)
+
     pair_second : (p q : ℕ) → (b == p && c == q) ≡ true → q ≡ c
     pair_second p q h = grind (arith, nat_tests)
+
     pair : (p q : ℕ) → (b == p && c == q) ≡ true → (p ≡ b) × (q ≡ c)
     pair p q h = (pair_first p q h, pair_second p q h)
+
     inside : 0 < n → (v w : Bool) → (b == 47 && c == 42) ≡ v → (b == 42 && c == 47) ≡ w
         → (behind_open (n + 1) z ≡ Some rest → Comments (n + 1) z rest) → (behind_open (n - 1) z ≡ Some rest → Comments (n - 1) z rest) → (behind_open n (c ∷ z) ≡ Some rest → Comments n (c ∷ z) rest)
         → cond v (behind_open (n + 1) z) (cond w (behind_open (n - 1) z) (comment_rest n false (c ∷ z))) ≡ Some rest → Comments n (b ∷ c ∷ z) rest
     inside some true w f g up down on e = let h = pair 47 42 f in subst (λ x. Comments n (x ∷ c ∷ z) rest) h.0 (subst (λ x. Comments n (47 ∷ x ∷ z) rest) h.1 (Comments.opens n z rest some (up e)))
     inside some false true f g up down on e = let h = pair 42 47 g in subst (λ x. Comments n (x ∷ c ∷ z) rest) h.0 (subst (λ x. Comments n (42 ∷ x ∷ z) rest) h.1 (Comments.closes n z rest some (down e)))
     inside some false false f g up down on e = Comments.other n b (c ∷ z) rest some f g (on (open_is n (c ∷ z) some ∙ e))
+
     by : (v : Bool) → (n == 0) ≡ v
         → (behind_open (n + 1) z ≡ Some rest → Comments (n + 1) z rest) → (behind_open (n - 1) z ≡ Some rest → Comments (n - 1) z rest) → (behind_open n (c ∷ z) ≡ Some rest → Comments n (c ∷ z) rest)
         → cond v (Some (b ∷ c ∷ z)) (comment_rest n false (b ∷ c ∷ z)) ≡ Some rest → Comments n (b ∷ c ∷ z) rest

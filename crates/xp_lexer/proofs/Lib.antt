@@ -1,3 +1,4 @@
+pub mod Answering
 pub mod Ascii
 pub mod Constants
 pub mod Fronts

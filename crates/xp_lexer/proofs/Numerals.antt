@@ -1,15 +1,16 @@
 -- Numbers: the function finds what the definition says, and nothing else.
-use Rattle.std.proofs.Common.{◌≡◌, ℕ, zero, suc, ◌+◌, ◌-◌, ◌*◌, ◌^◌, ◌<◌, ◌≤◌, min, Bool, true, false, not, ◌&&◌, ◌||◌, ◌==◌, cond, List, [], ◌∷◌, length, drop, ◌⊎◌, inl, inr, refl, sym, ap, subst, ◌∙◌, arith, lit<}
+use Rattle.std.proofs.Common.{◌≡◌, ℕ, ◌+◌, ◌-◌, ◌*◌, ◌^◌, ◌<◌, ◌≤◌, min, Bool, true, false, not, ◌&&◌, ◌||◌, ◌==◌, cond, [], ◌∷◌, length, drop, inl, inr, refl, sym, ap, subst, ◌∙◌, arith, lit<}
 use Rattle.std.specs.Prelude.{nat_lt, nat_le, slice_index}
 use Rattle.std.specs.Char.{digit_value, is_digit}
 use Rattle.std.proofs.lemmas.Bool.{cases_lt, and_parts}
 use Rattle.std.proofs.lemmas.Bool.Decides.{nat_tests}
-use Rattle.std.proofs.Math.Nat.{pow-le-pow_right, one-le-pow, le-mul_of_pos_right, mul-le-mul_right, mul-le-mul}
+use Rattle.std.proofs.Math.Nat.{pow-le-pow_right, one-le-pow, le-mul_of_pos_right, mul-le-mul_right}
 use Rattle.xp_lexer.specs.declared.numbers.Exponent.{Exponent}
 use Rattle.xp_lexer.specs.declared.numbers.Exponent.TheVariants as shift
 use Rattle.xp_lexer.specs.Bytes.{Text, first, is_decimal}
 use Rattle.xp_lexer.specs.Lexemes.{Lexeme, NumberOf, TooWide}
-use Rattle.xp_lexer.specs.Cutting.{extended, digits, decimals, fraction, sign, signed, exponent_digits, exponent_at, raised, shifted, number_of, decimal_of, decimal, is_absent, base_of, names_base, number, begins_number}
+use Rattle.xp_lexer.specs.Cutting.{digits, decimals, fraction, sign, signed, exponent_digits, exponent_at, raised, shifted, decimal_of, decimal, names_base, number}
+use Rattle.xp_lexer.specs.Meaning.{number_of, is_absent, base_of, begins_number}
 use Rattle.xp_lexer.specs.Grammar.{Digits, Decimals, Fraction, Sign, Power, exponent, is_exponent_letter, scaled, Based, Reads}
 
 -- a value that stands still at a bound, with one digit more
@@ -30,7 +31,7 @@ nothing_digit : (base : ℕ) → base ≤ 16 → is_digit 0 base ≡ false
 nothing_digit base high = grind (arith, nat_tests)
 
 pub digits_are : (base v n : ℕ) (z : Text) (w m : ℕ) (rest : Text) → 1 ≤ base → base ≤ 16 → Digits base v n z w m rest → digits base (min v (10 ^ 38)) n z ≡ (min w (10 ^ 38), m, rest)
-digits_are base v n z w m rest low high (Digits.stops a c []  e f) = refl
+digits_are base v n z w m rest low high (Digits.stops a c [] e f) = refl
 digits_are base v n z w m rest low high (Digits.stops a c (b ∷ r) e f) = rw (e, f) refl
 digits_are base v n z w m rest low high (Digits.digit a c b a' c' y r e more) =
     rw e (ap (λ x. digits base x (c + 1) y) (min_step base a (digit_value b) (10 ^ 38) low) ∙ digits_are base (a * base + digit_value b) (c + 1) y a' c' r low high more)
@@ -140,6 +141,7 @@ power_found (b ∷ z) = by (is_exponent_letter b) refl (sign_found z)
     inside : is_exponent_letter b ≡ true → (down : Bool) (ds : Text) → Sign z down ds → (t : Bool) → is_decimal (first ds) ≡ t → HasDigits 10 0 0 ds → HasPower (b ∷ z)
     inside e down ds s true f (w, m, rest, d) = (exponent down w, rest, Power.some b z ds rest down w m e s f d)
     inside e down ds s false f d = (shift.Absent, b ∷ z, Power.no_digit b z ds down e s f)
+
     by : (t : Bool) → is_exponent_letter b ≡ t → HasSign z → HasPower (b ∷ z)
     by true e (down, ds, s) = inside e down ds s (is_decimal (first ds)) refl (digits_found 10 (omega arith) 0 0 ds)
     by false e s = (shift.Absent, b ∷ z, Power.no_letter (b ∷ z) e)
@@ -191,10 +193,13 @@ scaled_cap : (w m : ℕ) (x : Exponent) → m + 39 ≤ 10 ^ 38
     → (min (shifted (min w (10 ^ 38)) m (capped x)).0 (10 ^ 38) ≡ min (scaled w m x).0 (10 ^ 38)) × (min (shifted (min w (10 ^ 38)) m (capped x)).1 39 ≡ min (scaled w m x).1 39)
 scaled_cap w m shift.Absent h = (omega arith, refl)
 scaled_cap w m (shift.Down by) h = (omega arith, omega arith)
-scaled_cap w m (shift.Up by) h = (elim (cases_lt by (10 ^ 38)) [
-  | inl less ↦ let e : min by (10 ^ 38) ≡ by = omega arith in rw e (raised_same w (by - m))
-  | inr most ↦ raised_far w (min by (10 ^ 38) - m) (by - m) (omega arith) (omega arith)
-], omega arith)
+scaled_cap w m (shift.Up by) h = (
+  elim (cases_lt by (10 ^ 38)) [
+    | inl less ↦ let e : min by (10 ^ 38) ≡ by = omega arith in rw e (raised_same w (by - m))
+    | inr most ↦ raised_far w (min by (10 ^ 38) - m) (by - m) (omega arith) (omega arith)
+  ],
+  omega arith,
+)
 
 pub base_low : (b : ℕ) → (1 ≤ base_of b) × (base_of b ≤ 16)
 base_low b = by (b == 120 || b == 88) (b == 111 || b == 79) (b == 98 || b == 66)
@@ -234,13 +239,17 @@ based_found (b ∷ letter ∷ y) e = by (digits_found (base_of letter) low.1 0 0
   where
     low : (1 ≤ base_of letter) × (base_of letter ≤ 16)
     low = base_low letter
+
     zero_first : (b == 48) ≡ true
     zero_first = (and_parts (b == 48) (not (base_of letter == 10)) (and_parts (names_base (b ∷ letter ∷ y)) _ e).0).0
+
     other : not (base_of letter == 10) ≡ true
     other = (and_parts (b == 48) (not (base_of letter == 10)) (and_parts (names_base (b ∷ letter ∷ y)) _ e).0).1
+
     turned : (v : Bool) → not v ≡ true → v ≡ false
     turned true h = absurd cc
     turned false h = refl
+
     by : HasDigits (base_of letter) 0 0 y → IsBased (b ∷ letter ∷ y)
     by (w, m, rest, d) =
         let g : digits (base_of letter) 0 0 y ≡ (min w (10 ^ 38), m, rest) = digits_are (base_of letter) 0 0 y w m rest low.0 low.1 d in
@@ -279,8 +288,10 @@ number_found z begins = by (reads_base z) refl (digits_found 10 (omega arith) 0 
   where
     with_power : (v n : ℕ) (whole : Text) → ((w : ℕ) (rest : Text) → Based z w rest → ⊥) → Digits 10 0 0 z v n whole → (w m : ℕ) (point : Text) → Fraction v whole w m point → HasPower point → (k : Lexeme) × (rest : Text) × Reads z k rest
     with_power v n whole none d w m point f (x, rest, p) = (_, rest, Reads.decimal z whole point rest v w n m x begins none d f p)
+
     with_fraction : (v n : ℕ) (whole : Text) → ((w : ℕ) (rest : Text) → Based z w rest → ⊥) → Digits 10 0 0 z v n whole → HasFraction v whole → (k : Lexeme) × (rest : Text) × Reads z k rest
     with_fraction v n whole none d (w, m, point, f) = with_power v n whole none d w m point f (power_found point)
+
     by : (t : Bool) → reads_base z ≡ t → HasDigits 10 0 0 z → (k : Lexeme) × (rest : Text) × Reads z k rest
     by true e d = let (w, rest, b) = based_found z e in (number_of w 0 true, rest, Reads.based z w rest b)
     by false e (v, n, whole, d) = with_fraction v n whole (λ w rest b. let t = based_test z w rest b in absurd cc) d (fraction_found v whole)

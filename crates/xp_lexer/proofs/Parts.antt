@@ -5,7 +5,8 @@ use Rattle.std.proofs.lemmas.List.{length-drop}
 use Rattle.xp_lexer.specs.declared.trouble.Trouble.{Trouble}
 use Rattle.xp_lexer.specs.Bytes.{Text, is_space}
 use Rattle.xp_lexer.specs.declared.trouble.Trouble.TheVariants as trouble
-use Rattle.xp_lexer.specs.Cutting.{◌>>=◌, Fails, clean_len, undoubled, raw_len, part_of, part, continued, then_more, more_parts, all_parts}
+use Rattle.xp_lexer.specs.Cutting.{◌>>=◌, Fails, undoubled, raw_len, part_of, part, continued, then_more, more_parts, all_parts}
+use Rattle.xp_lexer.specs.Meaning.{clean_len}
 
 pub bind_same : {A B : Type 0} (r : Result A Trouble) (f g : A → Result B Trouble) → ((x : A) → r ≡ Ok x → f x ≡ g x) → (r >>= f) ≡ (r >>= g)
 bind_same (Ok x) f g same = same x refl

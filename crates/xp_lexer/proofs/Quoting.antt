@@ -1,13 +1,13 @@
 -- What is quoted: the function finds what the definition says, and nothing else.
-use Rattle.std.proofs.Common.{◌≡◌, ℕ, zero, suc, ◌+◌, ◌-◌, ◌<◌, ◌≤◌, Bool, true, false, ◌&&◌, ◌||◌, ◌==◌, cond, List, [], ◌∷◌, ◌++◌, length, take, drop, Option, Some, None, Result, Ok, Err, ◌⊎◌, inl, inr, refl, sym, ap, subst, ◌∙◌, arith, length-take}
+use Rattle.std.proofs.Common.{◌≡◌, ℕ, suc, ◌+◌, ◌-◌, ◌<◌, ◌≤◌, Bool, true, false, ◌==◌, cond, [], ◌∷◌, length, take, drop, Option, Some, None, Ok, Err, ◌⊎◌, inl, inr, refl, ap, subst, ◌∙◌, arith, length-take}
 use Rattle.std.specs.Prelude.{nat_lt}
 use Rattle.std.proofs.lemmas.Bool.{cases_lt}
 use Rattle.std.proofs.lemmas.Bool.Decides.{nat_tests}
 use Rattle.std.proofs.lemmas.Str.{utf8_valid_len_le}
-use Rattle.xp_lexer.specs.declared.trouble.Trouble.{Trouble}
 use Rattle.xp_lexer.specs.declared.trouble.Trouble.TheVariants as trouble
-use Rattle.xp_lexer.specs.Bytes.{Text, first}
-use Rattle.xp_lexer.specs.Cutting.{nonzero_len, clean_len, undoubled, raw_len, part_of, part}
+use Rattle.xp_lexer.specs.Bytes.{Text}
+use Rattle.xp_lexer.specs.Cutting.{undoubled, raw_len, part_of, part}
+use Rattle.xp_lexer.specs.Meaning.{nonzero_len, clean_len}
 use Rattle.xp_lexer.specs.Grammar.{Quoted, IsClean, IsOpen}
 
 same : (q : ℕ) → (q == q) ≡ true

@@ -1,16 +1,17 @@
 -- Operators: the function finds what the definition says, and nothing else.
-use Rattle.std.proofs.Common.{◌≡◌, ℕ, zero, suc, ◌+◌, ◌-◌, ◌<◌, ◌≤◌, Bool, true, false, not, ◌&&◌, ◌||◌, ◌==◌, cond, List, [], ◌∷◌, ◌++◌, length, take, drop, Result, Ok, Err, refl, sym, ap, subst, ◌∙◌, arith, append_assoc}
+use Rattle.std.proofs.Common.{◌≡◌, ℕ, suc, ◌+◌, Bool, true, false, not, ◌||◌, ◌==◌, cond, [], ◌∷◌, ◌++◌, length, take, drop, Ok, refl, sym, ap, subst, ◌∙◌, arith, append_assoc}
 use Rattle.std.specs.Prelude.{slice_index}
 use Rattle.std.specs.List.{list_any, list_all}
 use Rattle.std.proofs.lemmas.Bool.{and_parts}
 use Rattle.std.proofs.lemmas.Bool.Decides.{nat_tests}
 use Rattle.std.proofs.lemmas.List.{append-nil}
 use Rattle.xp_lexer.specs.Bytes.{Text, first, is_sign, is_free}
-use Rattle.xp_lexer.specs.Lexemes.{Lexeme, OperatorOf}
-use Rattle.xp_lexer.specs.Cutting.{goes_on, operator_len, spelled, cut, operator}
+use Rattle.xp_lexer.specs.Lexemes.{OperatorOf}
+use Rattle.xp_lexer.specs.Cutting.{operator_len, cut, operator}
+use Rattle.xp_lexer.specs.Meaning.{goes_on, spelled}
 use Rattle.xp_lexer.specs.Grammar.{Run, Trims, ends_plain}
 
-abbrev HasRun : Text → Type 0
+abbrev pub HasRun : Text → Type 0
 HasRun z = (run : Text) × (rest : Text) × Run z run rest
 
 pub run_found : (z : Text) → HasRun z
@@ -116,6 +117,7 @@ splits b (c ∷ run) = by (splits c run)
     one : (d : ℕ) (signs : Text) → c ∷ run ≡ d ∷ signs → list_all is_sign signs ≡ true → (v : Bool) → is_sign d ≡ v → Split (b ∷ c ∷ run)
     one d signs e all true f = (b ∷ [], d ∷ signs, ap (λ t. b ∷ t) e, rw f all, refl)
     one d signs e all false f = (b ∷ d ∷ [], signs, ap (λ t. b ∷ t) e, all, or_second (length (b ∷ d ∷ []) == 1) (not (is_sign d)) (rw f refl))
+
     by : Split (c ∷ run) → Split (b ∷ c ∷ run)
     by ([], signs, e, all, k) = absurd (grind (arith, nat_tests))
     by (d ∷ [], signs, e, all, k) = one d signs e all (is_sign d) refl

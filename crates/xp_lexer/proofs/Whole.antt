@@ -6,7 +6,8 @@ use Rattle.xp_lexer.specs.Bytes.{Text}
 use Rattle.std.proofs.lemmas.List.{map-append}
 use Rattle.xp_lexer.specs.declared.token.Token.{Token}
 use Rattle.xp_lexer.specs.Lexemes.{Lexeme, Placed, placed, all_placed}
-use Rattle.xp_lexer.specs.Cutting.{◌>>=◌, Fails, piece, is_end, is_operator, token_at, with_front, admitted, onward, pieces, Statement, statement}
+use Rattle.xp_lexer.specs.Cutting.{◌>>=◌, Fails, piece, is_end, is_operator, with_front, admitted, onward, pieces, Statement, statement}
+use Rattle.xp_lexer.specs.Meaning.{token_at}
 use Rattle.xp_lexer.proofs.Parts.{bind_same}
 use Rattle.xp_lexer.proofs.Shorter.{goes_on_behind, piece_shorter}
 

@@ -1,9 +1,8 @@
 -- The plain function that reads a statement from the front of a text, piece by piece (manual 4.1).
-use Rattle.std.specs.Prelude.{◌≡◌, ℕ, zero, suc, ◌+◌, ◌-◌, ◌*◌, ◌^◌, min, Bool, true, false, not, ◌&&◌, ◌||◌, if◌then◌else◌, ◌==◌, nat_le, nat_lt, List, [], ◌∷◌, ◌++◌, length, take, drop, slice_index, codes, Option, Some, None, Result, Ok, Err}
-use Rattle.std.specs.Char.{digit_value, is_digit, to_ascii_lowercase}
+use Rattle.std.specs.Prelude.{◌≡◌, ℕ, zero, suc, ◌+◌, ◌-◌, ◌*◌, ◌^◌, min, Bool, true, false, not, ◌&&◌, ◌||◌, if◌then◌else◌, ◌==◌, nat_lt, List, [], ◌∷◌, ◌++◌, length, take, drop, slice_index, Option, Some, None, Result, Ok, Err}
+use Rattle.std.specs.Char.{digit_value, is_digit}
 use Rattle.std.specs.List.{prefix_len}
-use Rattle.std.specs.Str.{bytes_eq, str_to_ascii_lowercase}
-use Rattle.std.specs.Str.Lossy.{utf8_valid_len}
+use Rattle.std.specs.Str.{str_to_ascii_lowercase}
 use Rattle.xp_lexer.specs.declared.numbers.Exponent.{Exponent}
 use Rattle.xp_lexer.specs.declared.numbers.Exponent.TheVariants as shift
 use Rattle.xp_lexer.specs.declared.trouble.Trouble.{Trouble}
@@ -13,9 +12,9 @@ use Rattle.xp_lexer.specs.declared.token.LexFault.{LexFault}
 use Rattle.xp_lexer.specs.declared.token.LexFault.TheVariants as fault
 use Rattle.xp_lexer.specs.declared.token.Mark.TheVariants as mark
 use Rattle.xp_lexer.specs.declared.token.Mark.{Mark}
-use Rattle.xp_lexer.specs.declared.words.Word.{Word}
-use Rattle.xp_lexer.specs.Lexemes.{Lexeme, Placed, all_placed, NameOf, QuotedName, Reserved, Constant, NumberOf, TooWide, OperatorOf, MarkOf, EndOf}
+use Rattle.xp_lexer.specs.Lexemes.{Lexeme, Placed, all_placed, QuotedName, Constant, OperatorOf, MarkOf, EndOf}
 use Rattle.xp_lexer.specs.Words.{word_named}
+use Rattle.xp_lexer.specs.Meaning.{named, base_of, is_absent, number_of, goes_on, spelled, clean_len, is_prefix, begins_number, is_glued, token_at, fault_of, Answer}
 use Rattle.xp_lexer.specs.Bytes.{Text, first, is_space, is_decimal, begins_name, is_name_byte, is_sign, is_free, is_operator_byte, opens_comment}
 
 -- the text from the end of the line on
@@ -60,11 +59,6 @@ abbrev pub ◌>>=◌ : {A B : Type 0} → Result A Trouble → (A → Result B T
 abbrev pub name_len : Text → ℕ
 name_len z = prefix_len is_name_byte z
 
--- the reserved word, or else the name
-abbrev pub named : Option Word → Text → Lexeme
-named None folded = NameOf folded
-named (Some w) folded = Reserved w
-
 unfoldable pub name : Text → Result (Lexeme × Text) Trouble
 name z =
     let folded = str_to_ascii_lowercase (take (name_len z) z) in
@@ -96,11 +90,6 @@ exponent_of shift.Absent = 0
 exponent_of (shift.Up by) = by
 exponent_of (shift.Down by) = by
 
-abbrev pub is_absent : Exponent → Bool
-is_absent shift.Absent = true
-is_absent (shift.Up by) = false
-is_absent (shift.Down by) = false
-
 abbrev pub signed : Bool → ℕ → Exponent
 signed true by = shift.Down by
 signed false by = shift.Up by
@@ -122,10 +111,6 @@ shifted value decimals shift.Absent = (value, decimals)
 shifted value decimals (shift.Up by) = (raised value (by - decimals), decimals - by)
 shifted value decimals (shift.Down by) = (value, decimals + by)
 
-unfoldable pub number_of : ℕ → ℕ → Bool → Lexeme
-number_of coefficient scale whole =
-    if nat_lt coefficient (10 ^ 38) && nat_le scale 38 then NumberOf false coefficient scale whole else TooWide
-
 -- a number with a fraction and an exponent that were read
 unfoldable pub decimal_of : ℕ × ℕ × Text → Exponent → Bool → Lexeme
 decimal_of f x whole = number_of (shifted f.0 f.1 x).0 (shifted f.0 f.1 x).1 whole
@@ -136,10 +121,6 @@ decimal z =
     let f = fraction w.0 w.2 in
     let x = exponent_at f.2 in
     (decimal_of f x.0 (not (first w.2 == 46) && is_absent x.0), x.1)
-
-abbrev pub base_of : ℕ → ℕ
-base_of b =
-    if b == 120 || b == 88 then 16 else (if b == 111 || b == 79 then 8 else (if b == 98 || b == 66 then 2 else 10))
 
 -- 0 and a letter begin a number in another base, where a digit of it follows
 abbrev pub names_base : Text → Bool
@@ -152,18 +133,12 @@ number z =
 
 -- ---- operators
 
-abbrev pub goes_on : ℕ → ℕ → Bool
-goes_on b next = is_operator_byte b && not (opens_comment b next)
-
 -- The length of the operator: of all its bytes where one of them lets it end in a sign, else up to the last that is no sign.
 abbrev pub operator_len : ℕ → ℕ → Bool → Text → ℕ
 operator_len len kept free [] = if free then len else kept
 operator_len len kept free (b ∷ z) =
     if goes_on b (first z) then operator_len (len + 1) (if is_sign b then kept else len + 1) (free || is_free b) z
     else (if free then len else kept)
-
-unfoldable pub spelled : Text → Text
-spelled operator = if bytes_eq operator (codes "!=") then codes "<>" else operator
 
 unfoldable pub cut : ℕ → Text → Result (Lexeme × Text) Trouble
 cut len z = Ok (OperatorOf (spelled (take len z)), drop len z)
@@ -177,13 +152,6 @@ raw_len quote true len (b ∷ z) = raw_len quote false (len + 1) z
 raw_len quote false len (b ∷ z) =
     if b == quote then (if first z == quote then raw_len quote true (len + 1) z else Some len)
     else raw_len quote false (len + 1) z
-
-abbrev pub nonzero_len : Text → ℕ
-nonzero_len raw = prefix_len (λ b. not (b == 0)) raw
-
--- the length of the longest front that is UTF-8 without a zero byte
-abbrev pub clean_len : Text → ℕ
-clean_len raw = utf8_valid_len (take (nonzero_len raw) raw)
 
 -- each doubled quote as one
 abbrev pub undoubled : ℕ → Bool → Text → Text
@@ -226,14 +194,6 @@ quoted_name z = part 34 z >>= (λ p. if length p.0 == 0 then Err (trouble.BadByt
 
 -- ---- one piece
 
--- a letter before a quote, or u& before one, for which no constant stands
-unfoldable pub is_prefix : Text → Bool
-is_prefix z =
-    let b = to_ascii_lowercase (first z) in
-    let next = slice_index z 1 in
-    ((b == 98 || b == 101 || b == 110 || b == 120) && next == 39)
-    || ((b == 117 && next == 38) && (slice_index z 2 == 39 || slice_index z 2 == 34))
-
 unfoldable pub word : Text → Result (Lexeme × Text) Trouble
 word z = if is_prefix z then Err (trouble.BadByte (length z)) else name z
 
@@ -255,9 +215,6 @@ mark_at z =
     else (if b == 46 then one_byte mark.Point z
     else (if b == 58 && slice_index z 1 == 58 then Ok (MarkOf mark.DoubleColon, drop 2 z)
     else Err (trouble.BadByte (length z))))))))
-
-abbrev pub begins_number : Text → Bool
-begins_number z = is_decimal (first z) || (first z == 46 && is_decimal (slice_index z 1))
 
 unfoldable pub token : Bool → Text → Result (Lexeme × Text) Trouble
 token alone z =
@@ -296,22 +253,9 @@ abbrev pub is_end : Lexeme → Bool
 is_end EndOf = true
 is_end _ = false
 
-abbrev pub is_number : Lexeme → Bool
-is_number (NumberOf n c s w) = true
-is_number TooWide = true
-is_number _ = false
-
 abbrev pub is_operator : Lexeme → Bool
 is_operator (OperatorOf o) = true
 is_operator _ = false
-
--- a letter, a digit or an underscore stands directly behind a number
-abbrev pub is_glued : Lexeme → Text → Bool
-is_glued k rest = is_number k && is_name_byte (first rest)
-
--- the token between a text and its rest, where the whole has `total` bytes
-abbrev pub token_at : ℕ → Text → Text → Lexeme → Placed
-token_at total z rest k = record { start = total - length z; end = total - length rest; lexeme = k }
 
 abbrev pub Statement : Type 0
 Statement = Result (List Placed × Text) Trouble
@@ -339,17 +283,6 @@ pieces (suc n) total room alone z = piece alone z >>= (λ p. onward (pieces n to
 -- the tokens of a statement with its end, and the text behind it; behind an operator a sign stands alone
 unfoldable pub statement : ℕ → ℕ → Bool → Text → Statement
 statement total room alone z = pieces (suc (length z)) total room alone z
-
--- the place where so many bytes are left
-abbrev pub fault_of : ℕ → Trouble → LexFault
-fault_of total (trouble.BadByte left) = fault.BadByte (total - left)
-fault_of total (trouble.Unclosed left) = fault.Unclosed (total - left)
-fault_of total (trouble.TooManyTokens left) = fault.TooManyTokens (total - left)
-fault_of total trouble.Memory = fault.Memory
-
--- the tokens of a statement and the place behind it, or the fault
-abbrev pub Answer : Type 0
-Answer = Result (List Placed × ℕ) LexFault
 
 abbrev pub finished : ℕ → Statement → Answer
 finished total (Ok q) = Ok (q.0, total - length q.1)

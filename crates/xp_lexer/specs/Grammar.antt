@@ -7,13 +7,15 @@ use Rattle.std.specs.Str.{str_to_ascii_lowercase}
 use Rattle.xp_lexer.specs.declared.numbers.Exponent.{Exponent}
 use Rattle.xp_lexer.specs.declared.numbers.Exponent.TheVariants as shift
 use Rattle.xp_lexer.specs.declared.token.Mark.TheVariants as mark
+use Rattle.xp_lexer.specs.declared.token.Lexed.{Lexed}
 use Rattle.xp_lexer.specs.declared.token.LexFault.{LexFault}
+use Rattle.xp_lexer.specs.declared.token.LexFault.TheVariants as fault
 use Rattle.xp_lexer.specs.declared.trouble.Trouble.{Trouble}
 use Rattle.xp_lexer.specs.declared.trouble.Trouble.TheVariants as trouble
-use Rattle.xp_lexer.specs.Bytes.{Text, first, is_space, is_decimal, begins_name, is_name_byte, is_sign, is_free, is_operator_byte, opens_comment}
-use Rattle.xp_lexer.specs.Lexemes.{Lexeme, Placed, QuotedName, Constant, OperatorOf, MarkOf, EndOf}
+use Rattle.xp_lexer.specs.Bytes.{Text, first, is_space, is_decimal, begins_name, is_name_byte, is_sign, is_free, opens_comment}
+use Rattle.xp_lexer.specs.Lexemes.{Lexeme, Placed, all_placed, QuotedName, Constant, OperatorOf, MarkOf, EndOf}
 use Rattle.xp_lexer.specs.Words.{word_named}
-use Rattle.xp_lexer.specs.Cutting.{named, number_of, base_of, is_absent, begins_number, goes_on, spelled, clean_len, is_prefix, is_glued, token_at, fault_of, Answer}
+use Rattle.xp_lexer.specs.Meaning.{named, number_of, base_of, is_absent, begins_number, goes_on, spelled, clean_len, is_prefix, is_glued, token_at, fault_of, Answer}
 
 -- ---- white space and comments
 
@@ -196,4 +198,12 @@ pub data Fails (total room : ℕ) : Text → Trouble → Type 0 where
 -- what the statement that begins at a place is: at most 20,000 tokens and an End, and the place behind it, or the first fault
 pub data IsAnswer (text : Text) (from : ℕ) : Answer → Type 0 where
   tokens : (all : List Placed) (z rest : Text) → Passes (length text) (drop from text) all z → length all ≤ 20000 → Stops z rest → IsAnswer text from (Ok (all ++ token_at (length text) z rest EndOf ∷ [], length text - length rest))
-  fault : (t : Trouble) → Fails (length text) 20000 (drop from text) t → IsAnswer text from (Err (fault_of (length text) t))
+  fails : (t : Trouble) → Fails (length text) 20000 (drop from text) t → IsAnswer text from (Err (fault_of (length text) t))
+
+-- what `lex` returned is what the statement is, unless memory ran out
+abbrev pub IsRight : Text → ℕ → Result Lexed LexFault → Type 0
+IsRight text from (Ok l) = IsAnswer text from (Ok (all_placed l.tokens, l.next))
+IsRight text from (Err fault.Memory) = Unit {0}
+IsRight text from (Err (fault.BadByte at)) = IsAnswer text from (Err (fault.BadByte at))
+IsRight text from (Err (fault.Unclosed start)) = IsAnswer text from (Err (fault.Unclosed start))
+IsRight text from (Err (fault.TooManyTokens at)) = IsAnswer text from (Err (fault.TooManyTokens at))

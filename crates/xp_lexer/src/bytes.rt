@@ -9,7 +9,6 @@ pub fn byte(z: &[u8], at: usize) -> u8
     z.get(at).copied().unwrap_or(0)
 }
 
-#[tactic(auto, using(crate::proofs::Gaps::comments_found, crate::proofs::Gaps::line_found, crate::proofs::Fronts::longest_found, crate::proofs::Fronts::longest_is, crate::proofs::Constants::string_bad, crate::proofs::Numerals::number_found, crate::proofs::Numerals::decimal_is, crate::proofs::Numerals::based_is, crate::proofs::Runs::operator_alone, crate::proofs::Tokens::stop_is))]
 pub fn is_space(b: u8) -> bool
     ensures { result ≡ spec.is_space b }
 {

@@ -1,6 +1,8 @@
 //! The tokens of a statement.
 ghost use Rattle.std.specs.Prelude.{◌≡◌, ◌<◌, ◌≤◌, ◌^◌, ◌-◌, length, drop, true, false, IfOk};
 ghost use Rattle.xp_lexer.specs.Cutting as spec;
+ghost use Rattle.xp_lexer.specs.Meaning as meaning;
+ghost use Rattle.xp_lexer.specs.Grammar.{IsAnswer, IsRight};
 ghost use Rattle.xp_lexer.specs.Lexemes.{seen, placed, all_placed};
 
 use crate::bytes::{byte, is_name_byte};
@@ -17,7 +19,7 @@ fn is_end(kind: &TokenKind) -> bool
 }
 
 fn is_number(kind: &TokenKind) -> bool
-    ensures { result ≡ spec.is_number (seen kind.now) }
+    ensures { result ≡ meaning.is_number (seen kind.now) }
 {
     matches!(kind, TokenKind::Number { .. } | TokenKind::Wide)
 }
@@ -30,7 +32,7 @@ fn is_operator(kind: &TokenKind) -> bool
 
 /// A letter, a digit or an underscore stands directly behind a number.
 fn is_glued(kind: &TokenKind, rest: &[u8]) -> bool
-    ensures { result ≡ spec.is_glued (seen kind.now) rest.now }
+    ensures { result ≡ meaning.is_glued (seen kind.now) rest.now }
 {
     is_number(kind) && is_name_byte(byte(rest, 0))
 }
@@ -40,7 +42,7 @@ fn token_at(total: usize, z: &[u8], rest: &[u8], kind: TokenKind) -> Token
     requires whole { total < 2 ^ 32 }
     requires text { length z.now ≤ total }
     requires rest { length rest.now ≤ total }
-    ensures { placed result ≡ spec.token_at total z.now rest.now (seen kind) }
+    ensures { placed result ≡ meaning.token_at total z.now rest.now (seen kind) }
 {
     Token {
         span: Span {
@@ -93,7 +95,7 @@ fn statement(alloc: Global, total: usize, mut z: &[u8]) -> Result<(Tokens, &[u8]
 
 /// The place of a trouble, in a whole of `total` bytes.
 fn fault_of(total: usize, trouble: Trouble) -> LexFault
-    ensures { result ≡ spec.fault_of total trouble }
+    ensures { result ≡ meaning.fault_of total trouble }
 {
     match trouble {
         Trouble::BadByte { left } => LexFault::BadByte {
@@ -109,12 +111,12 @@ fn fault_of(total: usize, trouble: Trouble) -> LexFault
     }
 }
 
-/// The tokens of the statement that begins at `from`.
+/// The tokens of the statement that begins at `from`, as the function on lists gives them.
 #[tactic(auto, unfolding(crate::specs::Cutting::lexed))]
-pub fn lex(alloc: Global, text: &[u8], from: u64) -> Result<Lexed, LexFault>
+fn answer(alloc: Global, text: &[u8], from: u64) -> Result<Lexed, LexFault>
     requires within { from ≤ length text.now }
     requires fits { length text.now < 2 ^ 32 }
-    ensures exact { spec.Answers result (spec.lexed text.now from) }
+    ensures { spec.Answers result (spec.lexed text.now from) }
 {
     let total = text.len();
     match statement(alloc, total, &text[from as usize..]) {
@@ -124,4 +126,16 @@ pub fn lex(alloc: Global, text: &[u8], from: u64) -> Result<Lexed, LexFault>
         }),
         Err(trouble) => Err(fault_of(total, trouble)),
     }
+}
+
+/// The tokens of the statement that begins at `from`.
+pub fn lex(alloc: Global, text: &[u8], from: u64) -> Result<Lexed, LexFault>
+    requires within { from ≤ length text.now }
+    requires fits { length text.now < 2 ^ 32 }
+    // What is answered is what the statement is.
+    ensures right { IsRight text.now from result }
+    // The statement is nothing else, and what it is is answered, unless memory ran out.
+    ensures only { (answer : meaning.Answer) → IsAnswer text.now from answer → spec.Answers result answer }
+{
+    answer(alloc, text, from)
 }

@@ -2,6 +2,7 @@
 ghost use Rattle.std.specs.Prelude.{◌≡◌, ◌+◌, ◌*◌, ◌^◌, ◌<◌, ◌≤◌, min, length, slice_index, true};
 ghost use Rattle.std.specs.Char.{digit_value, is_digit};
 ghost use Rattle.xp_lexer.specs.Cutting as spec;
+ghost use Rattle.xp_lexer.specs.Meaning as meaning;
 ghost use Rattle.xp_lexer.specs.Lexemes.{seen};
 
 use crate::bytes::{byte, is_decimal};
@@ -160,9 +161,9 @@ fn shifted(value: u128, decimals: usize, exponent: Exponent) -> (u128, u128)
 }
 
 /// The number, or Wide where it has too many digits or decimals.
-#[tactic(auto, unfolding(crate::specs::Cutting::number_of))]
+#[tactic(auto, unfolding(crate::specs::Meaning::number_of))]
 fn number_of(coefficient: u128, scale: u128, whole: bool) -> TokenKind
-    ensures { seen result ≡ spec.number_of coefficient scale whole }
+    ensures { seen result ≡ meaning.number_of coefficient scale whole }
 {
     if coefficient < FULL && scale <= u128::from(DIGIT_LIMIT) {
         TokenKind::Number {
@@ -179,7 +180,7 @@ fn number_of(coefficient: u128, scale: u128, whole: bool) -> TokenKind
 }
 
 fn is_absent(exponent: Exponent) -> bool
-    ensures { result ≡ spec.is_absent exponent }
+    ensures { result ≡ meaning.is_absent exponent }
 {
     matches!(exponent, Exponent::Absent)
 }
@@ -200,7 +201,7 @@ fn decimal(z: &[u8]) -> (TokenKind, &[u8])
 
 /// The base that the letter behind a 0 names, or 10.
 fn base_of(letter: u8) -> u32
-    ensures value { result ≡ spec.base_of letter }
+    ensures value { result ≡ meaning.base_of letter }
     ensures low { 2 ≤ result }
     ensures high { result ≤ 16 }
 {

@@ -3,6 +3,7 @@ ghost use Rattle.std.specs.Prelude.{◌≡◌, ◌+◌, ◌<◌, ◌≤◌, max,
 ghost use Rattle.std.specs.Str.{IsAscii};
 ghost use Rattle.xp_lexer.specs.Bytes.{first, is_operator_byte};
 ghost use Rattle.xp_lexer.specs.Cutting as spec;
+ghost use Rattle.xp_lexer.specs.Meaning as meaning;
 ghost use Rattle.xp_lexer.specs.Lexemes.{seen};
 
 use crate::bytes::{byte, is_free, is_operator_byte, is_sign, opens_comment};
@@ -14,7 +15,7 @@ use xp_base::Name;
 
 /// An operator goes on with this byte, before that one.
 fn goes_on(b: u8, next: u8) -> bool
-    ensures { result ≡ spec.goes_on b next }
+    ensures { result ≡ meaning.goes_on b next }
 {
     is_operator_byte(b) && !opens_comment(b, next)
 }
@@ -43,9 +44,9 @@ fn operator_len(mut z: &[u8]) -> usize
 }
 
 /// The operator as it is read.
-#[tactic(auto, unfolding(crate::specs::Cutting::spelled))]
+#[tactic(auto, unfolding(crate::specs::Meaning::spelled))]
 fn spelled(operator: &str) -> &str
-    ensures { result.now ≡ spec.spelled operator.now }
+    ensures { result.now ≡ meaning.spelled operator.now }
 {
     if operator == "!=" { "<>" } else { operator }
 }

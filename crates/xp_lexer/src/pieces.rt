@@ -2,6 +2,7 @@
 ghost use Rattle.std.specs.Prelude.{◌≡◌, ◌<◌, ◌≤◌, ◌^◌, length, option_map, true, IfOk, IsSome, Some, false};
 ghost use Rattle.xp_lexer.specs.Bytes.{first, begins_name};
 ghost use Rattle.xp_lexer.specs.Cutting as spec;
+ghost use Rattle.xp_lexer.specs.Meaning as meaning;
 ghost use Rattle.xp_lexer.specs.Lexemes.{seen};
 
 use crate::bytes::{begins_name, byte, is_decimal, is_operator_byte, is_space, opens_comment};
@@ -15,9 +16,9 @@ use crate::trouble::Trouble;
 use std::alloc::Global;
 
 /// A letter before a quote, or `u&` before one, for which no constant stands.
-#[tactic(auto, unfolding(crate::specs::Cutting::is_prefix))]
+#[tactic(auto, unfolding(crate::specs::Meaning::is_prefix))]
 fn is_prefix(z: &[u8]) -> bool
-    ensures { result ≡ spec.is_prefix z.now }
+    ensures { result ≡ meaning.is_prefix z.now }
 {
     let b = byte(z, 0).to_ascii_lowercase();
     let next = byte(z, 1);
@@ -46,7 +47,7 @@ fn mark_at(z: &[u8]) -> Result<(TokenKind, &[u8]), Trouble>
 }
 
 fn begins_number(z: &[u8]) -> bool
-    ensures { result ≡ spec.begins_number z.now }
+    ensures { result ≡ meaning.begins_number z.now }
 {
     is_decimal(byte(z, 0)) || (byte(z, 0) == b'.' && is_decimal(byte(z, 1)))
 }

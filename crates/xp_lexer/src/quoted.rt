@@ -2,6 +2,7 @@
 ghost use Rattle.std.specs.Prelude.{◌≡◌, ◌+◌, ◌<◌, ◌≤◌, ◌^◌, length, take, drop, slice_index, true, false, IfSome, IfOk, string_bytes};
 ghost use Rattle.std.specs.Str.{IsUtf8};
 ghost use Rattle.xp_lexer.specs.Cutting as spec;
+ghost use Rattle.xp_lexer.specs.Meaning as meaning;
 ghost use Rattle.xp_lexer.specs.Lexemes.{seen};
 
 use crate::bytes::byte;
@@ -36,7 +37,7 @@ fn raw_len(quote: u8, mut z: &[u8]) -> Option<usize>
 
 /// How many bytes stand before the first zero byte.
 fn nonzero_len(raw: &[u8]) -> usize
-    ensures value { result ≡ spec.nonzero_len raw.now }
+    ensures value { result ≡ meaning.nonzero_len raw.now }
     ensures within { result ≤ length raw.now }
 {
     for (at, b) in raw.iter().enumerate() {
@@ -49,7 +50,7 @@ fn nonzero_len(raw: &[u8]) -> usize
 
 /// How many bytes at the front are whole characters other than a zero byte.
 fn clean_len(raw: &[u8]) -> usize
-    ensures value { result ≡ spec.clean_len raw.now }
+    ensures value { result ≡ meaning.clean_len raw.now }
     ensures within { result ≤ length raw.now }
     ensures clean { result ≡ length raw.now → IsUtf8 raw.now }
 {
