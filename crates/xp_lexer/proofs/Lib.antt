@@ -1,0 +1,14 @@
+pub mod Answering
+pub mod Ascii
+pub mod Constants
+pub mod Fronts
+pub mod Gaps
+pub mod Numerals
+pub mod Parts
+pub mod Powers
+pub mod Quotes
+pub mod Quoting
+pub mod Runs
+pub mod Shorter
+pub mod Tokens
+pub mod Whole

@@ -1,0 +1,32 @@
+//! Why a piece of the script could not be read, by the number of bytes left from that place on.
+use std::alloc::{AllocError, AllocFailed};
+
+#[derive(Clone, Copy, Debug)]
+pub enum Trouble {
+    BadByte { left: usize },
+    Unclosed { left: usize },
+    TooManyTokens { left: usize },
+    Memory,
+}
+
+impl From<AllocError> for Trouble {
+    ghost use Rattle.std.specs.Prelude.{◌≡◌};
+    ghost use Rattle.xp_lexer.specs.declared.trouble.Trouble.TheVariants.{Memory};
+
+    ghost from_gives = { λ _ e. e ≡ Memory };
+
+    fn from(_: AllocError) -> Trouble {
+        Trouble::Memory
+    }
+}
+
+impl<T: Drop> From<AllocFailed<T>> for Trouble {
+    ghost use Rattle.std.specs.Prelude.{◌≡◌};
+    ghost use Rattle.xp_lexer.specs.declared.trouble.Trouble.TheVariants.{Memory};
+
+    ghost from_gives = { λ _ e. e ≡ Memory };
+
+    fn from(_: AllocFailed<T>) -> Trouble {
+        Trouble::Memory
+    }
+}
