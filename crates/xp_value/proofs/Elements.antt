@@ -1,17 +1,10 @@
 -- The order of two lists, from a place on.
-use Rattle.std.proofs.Common.{◌≡◌, ℕ, ◌+◌, ◌<◌, ◌≤◌, List, [], ◌∷◌, length, get_or, drop, map, refl, ap, ◌∙◌, zero, suc, arith}
+use Rattle.std.proofs.Common.{◌≡◌, ℕ, ◌+◌, ◌<◌, ◌≤◌, List, [], ◌∷◌, length, get_or, drop, refl, ◌∙◌, zero, suc, arith}
 use Rattle.std.specs.declared.cmp.Ordering.{Ordering}
 use Rattle.std.specs.Ordering.{nat_cmp, ordering_then}
 use Rattle.std.specs.Cmp.Lexicographic.{slice_cmp}
 use Rattle.std.proofs.lemmas.Bool.Decides.{nat_tests}
 use Rattle.xp_base.proofs.Lists.{drop_one, drop_none}
-
--- comparing by what each element was turned into is comparing by the elements
-pub order_of_map : {A B C : Type 0} (R : C → B → Ordering) (f : A → C) (xs : List A) (ys : List B) → slice_cmp R (map f xs) ys ≡ slice_cmp (λ x y. R (f x) y) xs ys
-order_of_map R f [] [] = refl
-order_of_map R f [] (y ∷ ys) = refl
-order_of_map R f (x ∷ xs) [] = refl
-order_of_map R f (x ∷ xs) (y ∷ ys) = ap (ordering_then (R (f x) y)) (order_of_map R f xs ys)
 
 -- both lists have an element there
 pub order_from : {A : Type 0} (R : A → A → Ordering) (xs ys : List A) (i : ℕ) (x y : A) → i < length xs → i < length ys → x ≡ get_or xs i x → y ≡ get_or ys i y → slice_cmp R (drop i xs) (drop i ys) ≡ ordering_then (R x y) (slice_cmp R (drop (i + 1) xs) (drop (i + 1) ys))

@@ -1,7 +1,7 @@
 pub mod Elements
-pub mod Layers
 pub mod Padding
 pub mod Points
 pub mod Powers
+pub mod Rows
 pub mod Signs
 pub mod Total

@@ -1,5 +1,5 @@
 -- The order of values is total.
-use Rattle.std.proofs.Common.{◌≡◌, ℕ, ℤ, pos, true, false, List, [], ◌∷◌, map, Option, Some, None, refl, sym, subst}
+use Rattle.std.proofs.Common.{ap, ◌≡◌, ℕ, ℤ, pos, true, false, List, [], ◌∷◌, Option, Some, None, refl, subst}
 use Rattle.std.specs.declared.cmp.Ordering.{Ordering}
 use Rattle.std.specs.declared.cmp.Ordering.TheVariants.{Less, Equal, Greater}
 use Rattle.std.specs.Ordering.{nat_cmp, int_cmp, ordering_then, on, then_cmp}
@@ -9,12 +9,9 @@ use Rattle.std.proofs.lemmas.Cmp.{nat_cmp_total, int_cmp_total, nat_list_cmp_tot
 use Rattle.xp_value.specs.declared.value.Range.{Range}
 use Rattle.xp_value.specs.declared.value.Range.TheVariants.{Empty, Bounds}
 use Rattle.xp_value.specs.declared.value.RangeKind.TheVariants.{Int4}
-use Rattle.xp_value.specs.declared.value.Value.{Value}
-use Rattle.xp_value.specs.declared.value.Value.TheOpen.{Value-F}
-use Rattle.xp_value.specs.declared.value.Value.TheViews.{out-Value, roll-Value, the_lemmas}
-use Rattle.xp_value.specs.declared.value.Value.TheFolds.{ind-Value, map-Value}
-use Rattle.xp_value.specs.Order.{units, unpadded, lower_order, upper_order, range_order, kind, layer_order, value_order}
-use Rattle.xp_value.proofs.Layers.{layers}
+use Rattle.xp_value.specs.declared.value.Value.{Value, Arr', Row_of-Value, end_of-Value, more_of-Value}
+use Rattle.xp_value.specs.declared.value.Value.TheVariants as value
+use Rattle.xp_value.specs.Order.{units, unpadded, lower_order, upper_order, range_order, kind, value_order, elements_order}
 use Rattle.xp_value.proofs.Points.{OrdersAt, EachOrders, orders_total, orders_on, orders_then, orders_lists}
 
 -- two orders that answer alike
@@ -85,78 +82,85 @@ range_total : IsTotalOrder range_order
 range_total = alike_total range_order by_bounds range_alike (then_total (on_total filled nat_cmp_total) (then_total (on_total lower_of lower_total) (on_total upper_of upper_total)))
 
 -- what of a value decides among those of its kind
-abbrev number : Value-F Value → ℤ
-number (Value-F.Bool false) = pos 0
-number (Value-F.Bool true) = pos 1
-number (Value-F.Int n) = n
-number (Value-F.Num d) = units d
-number (Value-F.Day n) = n
+abbrev number : Value → ℤ
+number (value.Bool false) = pos 0
+number (value.Bool true) = pos 1
+number (value.Int n) = n
+number (value.Num d) = units d
+number (value.Day n) = n
 number _ = pos 0
 
-abbrev bytes : Value-F Value → List ℕ
-bytes (Value-F.Text t) = t
-bytes (Value-F.Pad t) = unpadded t
-bytes (Value-F.Bytes b) = b
-bytes (Value-F.Opaque t) = t
+abbrev bytes : Value → List ℕ
+bytes (value.Text t) = t
+bytes (value.Pad t) = unpadded t
+bytes (value.Bytes b) = b
+bytes (value.Opaque t) = t
 bytes _ = []
 
-abbrev range : Value-F Value → Range
-range (Value-F.Rng r) = r
+abbrev range : Value → Range
+range (value.Rng r) = r
 range _ = Empty Int4
 
-abbrev elements : Value-F Value → List Value
-elements (Value-F.Arr xs) = xs
+abbrev items : {m : _} → Row_of-Value m → List Value
+items end_of-Value = []
+items (more_of-Value v rest) = v ∷ items rest
+
+abbrev elements : Value → List Value
+elements (Arr' shape row) = items row
 elements _ = []
 
-abbrev by_parts : (Value → Value → Ordering) → Value-F Value → Value-F Value → Ordering
-by_parts R = then_cmp (on kind nat_cmp) (then_cmp (on number int_cmp) (then_cmp (on bytes (slice_cmp nat_cmp)) (then_cmp (on range range_order) (on elements (slice_cmp R)))))
+abbrev by_range : Value → Value → Ordering
+by_range = then_cmp (on range range_order) (on elements (slice_cmp value_order))
 
-parts_alike : (R : Value → Value → Ordering) (x y : Value-F Value) → by_parts R x y ≡ layer_order R x y
-parts_alike R (Value-F.Bool false) (Value-F.Bool false) = refl
-parts_alike R (Value-F.Bool false) (Value-F.Bool true) = refl
-parts_alike R (Value-F.Bool true) (Value-F.Bool false) = refl
-parts_alike R (Value-F.Bool true) (Value-F.Bool true) = refl
-parts_alike R (Value-F.Int x) (Value-F.Int y) = then_equal (int_cmp x y)
-parts_alike R (Value-F.Num x) (Value-F.Num y) = then_equal (int_cmp (units x) (units y))
-parts_alike R (Value-F.Text x) (Value-F.Text y) = then_equal (slice_cmp nat_cmp x y)
-parts_alike R (Value-F.Pad x) (Value-F.Pad y) = then_equal (slice_cmp nat_cmp (unpadded x) (unpadded y))
-parts_alike R (Value-F.Bytes x) (Value-F.Bytes y) = then_equal (slice_cmp nat_cmp x y)
-parts_alike R (Value-F.Day x) (Value-F.Day y) = then_equal (int_cmp x y)
-parts_alike R (Value-F.Arr xs) (Value-F.Arr ys) = refl
-parts_alike R (Value-F.Rng x) (Value-F.Rng y) = then_equal (range_order x y)
-parts_alike R (Value-F.Opaque x) (Value-F.Opaque y) = then_equal (slice_cmp nat_cmp x y)
-parts_alike R Value-F.Null Value-F.Null = refl
-parts_alike R x y = refl
+abbrev by_bytes : Value → Value → Ordering
+by_bytes = then_cmp (on bytes (slice_cmp nat_cmp)) by_range
 
-layer_orders : (R : Value → Value → Ordering) (x : Value-F Value) → EachOrders R (elements x) → OrdersAt (layer_order R) x
-layer_orders R x each = alike_orders (layer_order R) (by_parts R) x (parts_alike R)
-    (orders_then (on kind nat_cmp) (then_cmp (on number int_cmp) (then_cmp (on bytes (slice_cmp nat_cmp)) (then_cmp (on range range_order) (on elements (slice_cmp R))))) x
-    (orders_on kind nat_cmp x (orders_total nat_cmp nat_cmp_total (kind x)))
-    (orders_then (on number int_cmp) (then_cmp (on bytes (slice_cmp nat_cmp)) (then_cmp (on range range_order) (on elements (slice_cmp R)))) x
-    (orders_on number int_cmp x (orders_total int_cmp int_cmp_total (number x)))
-    (orders_then (on bytes (slice_cmp nat_cmp)) (then_cmp (on range range_order) (on elements (slice_cmp R))) x
-    (orders_on bytes (slice_cmp nat_cmp) x (orders_total (slice_cmp nat_cmp) nat_list_cmp_total (bytes x)))
-    (orders_then (on range range_order) (on elements (slice_cmp R)) x
-    (orders_on range range_order x (orders_total range_order range_total (range x)))
-    (orders_on elements (slice_cmp R) x (orders_lists R (elements x) each))))))
+abbrev by_number : Value → Value → Ordering
+by_number = then_cmp (on number int_cmp) by_bytes
 
-each_mapped : {A : Type 0} (f : A → Value) → ((a : A) → OrdersAt value_order (f a)) → (xs : List A) → EachOrders value_order (map f xs)
-each_mapped f known [] = tt
-each_mapped f known (x ∷ xs) = (known x, each_mapped f known xs)
+abbrev by_parts : Value → Value → Ordering
+by_parts = then_cmp (on kind nat_cmp) by_number
 
-each_element : {A : Type 0} (f : A → Value) → ((a : A) → OrdersAt value_order (f a)) → (y : Value-F A) → EachOrders value_order (elements (map-Value A Value f y))
-each_element f known (Value-F.Arr xs) = each_mapped f known xs
-each_element f known _ = tt
+items_alike : {m n : _} (xs : Row_of-Value m) (ys : Row_of-Value n) → slice_cmp value_order (items xs) (items ys) ≡ elements_order xs ys
+items_alike end_of-Value end_of-Value = refl
+items_alike end_of-Value (more_of-Value y ys) = refl
+items_alike (more_of-Value x xs) end_of-Value = refl
+items_alike (more_of-Value x xs) (more_of-Value y ys) = ap (ordering_then (value_order x y)) (items_alike xs ys)
 
-opened : (x : Value-F Value) → out-Value (roll-Value x) ≡ x
-opened x = search (the_lemmas)
+parts_alike : (x y : Value) → by_parts x y ≡ value_order x y
+parts_alike (value.Bool false) (value.Bool false) = refl
+parts_alike (value.Bool false) (value.Bool true) = refl
+parts_alike (value.Bool true) (value.Bool false) = refl
+parts_alike (value.Bool true) (value.Bool true) = refl
+parts_alike (value.Int x) (value.Int y) = then_equal (int_cmp x y)
+parts_alike (value.Num x) (value.Num y) = then_equal (int_cmp (units x) (units y))
+parts_alike (value.Text x) (value.Text y) = then_equal (slice_cmp nat_cmp x y)
+parts_alike (value.Pad x) (value.Pad y) = then_equal (slice_cmp nat_cmp (unpadded x) (unpadded y))
+parts_alike (value.Bytes x) (value.Bytes y) = then_equal (slice_cmp nat_cmp x y)
+parts_alike (value.Day x) (value.Day y) = then_equal (int_cmp x y)
+parts_alike (Arr' shape xs) (Arr' shape' ys) = items_alike xs ys
+parts_alike (value.Rng x) (value.Rng y) = then_equal (range_order x y)
+parts_alike (value.Opaque x) (value.Opaque y) = then_equal (slice_cmp nat_cmp x y)
+parts_alike value.Null value.Null = refl
+parts_alike x y = refl
 
--- y is x with what is known of each element
-value_orders : (v : Value) → OrdersAt value_order v
-value_orders = ind-Value (OrdersAt value_order) (λ x y is.
-    let each : EachOrders value_order (elements x) = subst (λ z. EachOrders value_order (elements z)) is (each_element (λ e. e.0) (λ e. e.1) y) in
-    let layer : OrdersAt (layer_order value_order) (out-Value (roll-Value x)) = subst (OrdersAt (layer_order value_order)) (sym (opened x)) (layer_orders value_order x each) in
-    alike_orders value_order (on out-Value (layer_order value_order)) (roll-Value x) (λ v w. sym (layers v w)) (orders_on out-Value (layer_order value_order) (roll-Value x) layer))
+-- a value whose elements are ordered is
+ordered : (v : Value) → EachOrders value_order (elements v) → OrdersAt value_order v
+ordered v each = alike_orders value_order by_parts v parts_alike
+    (orders_then (on kind nat_cmp) by_number v (orders_on kind nat_cmp v (orders_total nat_cmp nat_cmp_total (kind v)))
+    (orders_then (on number int_cmp) by_bytes v (orders_on number int_cmp v (orders_total int_cmp int_cmp_total (number v)))
+    (orders_then (on bytes (slice_cmp nat_cmp)) by_range v (orders_on bytes (slice_cmp nat_cmp) v (orders_total (slice_cmp nat_cmp) nat_list_cmp_total (bytes v)))
+    (orders_then (on range range_order) (on elements (slice_cmp value_order)) v (orders_on range range_order v (orders_total range_order range_total (range v)))
+    (orders_on elements (slice_cmp value_order) v (orders_lists value_order (elements v) each))))))
+
+mutual
+  value_orders : (v : Value) → OrdersAt value_order v
+  value_orders (Arr' shape row) = ordered (Arr' shape row) (row_orders row)
+  value_orders v = ordered v tt
+
+  row_orders : {m : _} (row : Row_of-Value m) → EachOrders value_order (items row)
+  row_orders end_of-Value = tt
+  row_orders (more_of-Value v rest) = (value_orders v, row_orders rest)
 
 pub value_order_total : IsTotalOrder value_order
 value_order_total = record {

@@ -7,10 +7,8 @@ use Rattle.std.specs.Cmp.Lexicographic.{slice_cmp}
 use Rattle.xp_base.specs.declared.decimal.Dec.{Dec}
 use Rattle.xp_value.specs.declared.value.Range.{Range}
 use Rattle.xp_value.specs.declared.value.Range.TheVariants.{Empty, Bounds}
-use Rattle.xp_value.specs.declared.value.Value.{Value}
-use Rattle.xp_value.specs.declared.value.Value.TheOpen.{Value-F}
-use Rattle.xp_value.specs.declared.value.Value.TheViews.{out-Value}
-use Rattle.xp_value.specs.declared.value.Value.TheFolds.{fold-Value}
+use Rattle.xp_value.specs.declared.value.Value.{Value, Arr', Row_of-Value, end_of-Value, more_of-Value}
+use Rattle.xp_value.specs.declared.value.Value.TheVariants as value
 
 -- a number, counted in units of the 38th decimal
 abbrev pub units : Dec → ℤ
@@ -48,36 +46,39 @@ range_order (Bounds lower upper k) (Empty k') = Greater
 range_order (Bounds lower upper k) (Bounds lower' upper' k') = ordering_then (lower_order lower lower') (upper_order upper upper')
 
 -- the place of a value's kind among the kinds: null comes last
-abbrev pub kind : {A : Type 0} → Value-F A → ℕ
-kind (Value-F.Bool b) = 0
-kind (Value-F.Int n) = 1
-kind (Value-F.Num d) = 2
-kind (Value-F.Text t) = 3
-kind (Value-F.Pad t) = 4
-kind (Value-F.Bytes b) = 5
-kind (Value-F.Day n) = 6
-kind (Value-F.Arr xs) = 7
-kind (Value-F.Rng r) = 8
-kind (Value-F.Opaque t) = 9
-kind Value-F.Null = 10
+abbrev pub kind : Value → ℕ
+kind (value.Bool b) = 0
+kind (value.Int n) = 1
+kind (value.Num d) = 2
+kind (value.Text t) = 3
+kind (value.Pad t) = 4
+kind (value.Bytes b) = 5
+kind (value.Day n) = 6
+kind (Arr' shape elements) = 7
+kind (value.Rng r) = 8
+kind (value.Opaque t) = 9
+kind value.Null = 10
 
--- two values, by the order of the elements of arrays
-abbrev pub layer_order : {A B : Type 0} → (A → B → Ordering) → Value-F A → Value-F B → Ordering
-layer_order R (Value-F.Bool x) (Value-F.Bool y) = bool_cmp x y
-layer_order R (Value-F.Int x) (Value-F.Int y) = int_cmp x y
-layer_order R (Value-F.Num x) (Value-F.Num y) = int_cmp (units x) (units y)
-layer_order R (Value-F.Text x) (Value-F.Text y) = slice_cmp nat_cmp x y
-layer_order R (Value-F.Pad x) (Value-F.Pad y) = slice_cmp nat_cmp (unpadded x) (unpadded y)
-layer_order R (Value-F.Bytes x) (Value-F.Bytes y) = slice_cmp nat_cmp x y
-layer_order R (Value-F.Day x) (Value-F.Day y) = int_cmp x y
-layer_order R (Value-F.Arr xs) (Value-F.Arr ys) = slice_cmp R xs ys
-layer_order R (Value-F.Rng x) (Value-F.Rng y) = range_order x y
-layer_order R (Value-F.Opaque x) (Value-F.Opaque y) = slice_cmp nat_cmp x y
-layer_order R x y = nat_cmp (kind x) (kind y)
+-- the order of two values, and of two lists of elements: the first two that differ decide, then the lengths
+abbrev mutual
+  pub value_order : Value → Value → Ordering
+  value_order (value.Bool x) (value.Bool y) = bool_cmp x y
+  value_order (value.Int x) (value.Int y) = int_cmp x y
+  value_order (value.Num x) (value.Num y) = int_cmp (units x) (units y)
+  value_order (value.Text x) (value.Text y) = slice_cmp nat_cmp x y
+  value_order (value.Pad x) (value.Pad y) = slice_cmp nat_cmp (unpadded x) (unpadded y)
+  value_order (value.Bytes x) (value.Bytes y) = slice_cmp nat_cmp x y
+  value_order (value.Day x) (value.Day y) = int_cmp x y
+  value_order (Arr' shape xs) (Arr' shape' ys) = elements_order xs ys
+  value_order (value.Rng x) (value.Rng y) = range_order x y
+  value_order (value.Opaque x) (value.Opaque y) = slice_cmp nat_cmp x y
+  value_order x y = nat_cmp (kind x) (kind y)
 
--- the order of two values
-abbrev pub value_order : Value → Value → Ordering
-value_order = fold-Value (Value → Ordering) (λ x w. layer_order (λ before. before) x (out-Value w))
+  pub elements_order : {m n : _} → Row_of-Value m → Row_of-Value n → Ordering
+  elements_order end_of-Value end_of-Value = Equal
+  elements_order end_of-Value (more_of-Value y ys) = Less
+  elements_order (more_of-Value x xs) end_of-Value = Greater
+  elements_order (more_of-Value x xs) (more_of-Value y ys) = ordering_then (value_order x y) (elements_order xs ys)
 
 -- the order tells two values apart in no way
 abbrev pub is_same : Value → Value → Bool

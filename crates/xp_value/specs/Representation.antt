@@ -1,6 +1,5 @@
 -- Which values a type has, by their representation (manual 8.1, 8.3, 8.4, 8.5, 8.6, 8.15, 8.17).
-use Rattle.std.specs.Prelude.{ℕ, ◌-◌, ◌^◌, ℤ, pos, negsuc, int_le, int_lt, nat_le, nat_lt, Bool, true, false, ◌&&◌, length, sum, Option, Some, None}
-use Rattle.std.specs.List.{list_all}
+use Rattle.std.specs.Prelude.{ℕ, ◌+◌, ◌-◌, ◌^◌, ℤ, pos, negsuc, int_le, int_lt, nat_le, nat_lt, Bool, true, false, ◌&&◌, length, Option, Some, None}
 use Rattle.xp_base.specs.declared.limits.TheConstants.{VALUE_LIMIT, ELEMENT_LIMIT}
 use Rattle.xp_value.specs.declared.value.TheConstants.{FIRST_DAY, LAST_DAY}
 use Rattle.xp_value.specs.declared.value.Range.{Range}
@@ -9,9 +8,8 @@ use Rattle.xp_value.specs.declared.value.RangeKind.{RangeKind}
 use Rattle.xp_value.specs.declared.value.RangeKind.TheVariants as subtype
 use Rattle.xp_value.specs.declared.value.Rep.{Rep}
 use Rattle.xp_value.specs.declared.value.Rep.TheVariants as rep
-use Rattle.xp_value.specs.declared.value.Value.{Value}
-use Rattle.xp_value.specs.declared.value.Value.TheOpen.{Value-F}
-use Rattle.xp_value.specs.declared.value.Value.TheFolds.{fold-Value}
+use Rattle.xp_value.specs.declared.value.Value.{Value, Arr', Row_of-Value, end_of-Value, more_of-Value}
+use Rattle.xp_value.specs.declared.value.Value.TheVariants as value
 
 -- how a type keeps its values: by one representation, or as arrays of what another type keeps
 pub data Shape : Type 0 where
@@ -58,46 +56,62 @@ is_range subtype.Int8 (Bounds lower upper subtype.Int8) = are_bounds subtype.Int
 is_range subtype.Day (Bounds lower upper subtype.Day) = are_bounds subtype.Day lower upper
 is_range kind range = false
 
--- the value, without looking at sizes, is one of the shape
-abbrev pub layer_has : Value-F (Shape → Bool) → Shape → Bool
-layer_has Value-F.Null s = true
-layer_has (Value-F.Bool b) (plain rep.Bool) = true
-layer_has (Value-F.Int n) (plain rep.Int2) = has_bits 16 n
-layer_has (Value-F.Int n) (plain rep.Int4) = has_bits 32 n
-layer_has (Value-F.Int n) (plain rep.Int8) = has_bits 64 n
-layer_has (Value-F.Num d) (plain rep.Num) = true
-layer_has (Value-F.Text t) (plain rep.Text) = true
-layer_has (Value-F.Pad t) (plain rep.Pad) = true
-layer_has (Value-F.Bytes b) (plain rep.Bytes) = true
-layer_has (Value-F.Day n) (plain rep.Day) = is_date n
-layer_has (Value-F.Arr elements) (array_of s) = list_all (λ has. has s) elements
-layer_has (Value-F.Rng r) (plain rep.Int4Range) = is_range subtype.Int4 r
-layer_has (Value-F.Rng r) (plain rep.Int8Range) = is_range subtype.Int8 r
-layer_has (Value-F.Rng r) (plain rep.DateRange) = is_range subtype.Day r
-layer_has (Value-F.Opaque t) (plain rep.Opaque) = true
-layer_has x s = false
+-- the value, whatever its size, is null or of the representation
+abbrev mutual
+  pub has : Shape → Value → Bool
+  has s value.Null = true
+  has (plain rep.Bool) (value.Bool b) = true
+  has (plain rep.Int2) (value.Int n) = has_bits 16 n
+  has (plain rep.Int4) (value.Int n) = has_bits 32 n
+  has (plain rep.Int8) (value.Int n) = has_bits 64 n
+  has (plain rep.Num) (value.Num d) = true
+  has (plain rep.Text) (value.Text t) = true
+  has (plain rep.Pad) (value.Pad t) = true
+  has (plain rep.Bytes) (value.Bytes b) = true
+  has (plain rep.Day) (value.Day n) = is_date n
+  has (array_of s) (Arr' shape elements) = each_has s elements
+  has (plain rep.Int4Range) (value.Rng r) = is_range subtype.Int4 r
+  has (plain rep.Int8Range) (value.Rng r) = is_range subtype.Int8 r
+  has (plain rep.DateRange) (value.Rng r) = is_range subtype.Day r
+  has (plain rep.Opaque) (value.Opaque t) = true
+  has s v = false
+
+  pub each_has : Shape → {m : _} → Row_of-Value m → Bool
+  each_has s end_of-Value = true
+  each_has s (more_of-Value v rest) = has s v && each_has s rest
 
 -- the bytes of a value, of an array those of its elements together
-abbrev pub layer_bytes : Value-F ℕ → ℕ
-layer_bytes (Value-F.Text t) = length t
-layer_bytes (Value-F.Pad t) = length t
-layer_bytes (Value-F.Bytes b) = length b
-layer_bytes (Value-F.Opaque t) = length t
-layer_bytes (Value-F.Arr elements) = sum elements
-layer_bytes x = 0
+abbrev mutual
+  pub byte_count : Value → ℕ
+  byte_count (value.Text t) = length t
+  byte_count (value.Pad t) = length t
+  byte_count (value.Bytes b) = length b
+  byte_count (value.Opaque t) = length t
+  byte_count (Arr' shape elements) = element_bytes elements
+  byte_count v = 0
 
-abbrev pub byte_count : Value → ℕ
-byte_count = fold-Value ℕ layer_bytes
+  pub element_bytes : {m : _} → Row_of-Value m → ℕ
+  element_bytes end_of-Value = 0
+  element_bytes (more_of-Value v rest) = byte_count v + element_bytes rest
+
+abbrev pub element_count : {m : _} → Row_of-Value m → ℕ
+element_count end_of-Value = 0
+element_count (more_of-Value v rest) = 1 + element_count rest
 
 -- no array in the value has too many elements
-abbrev pub layer_is_short : Value-F Bool → Bool
-layer_is_short (Value-F.Arr elements) = nat_le (length elements) ELEMENT_LIMIT && list_all (λ short. short) elements
-layer_is_short x = true
+abbrev mutual
+  pub is_short : Value → Bool
+  is_short (Arr' shape elements) = nat_le (element_count elements) ELEMENT_LIMIT && are_short elements
+  is_short v = true
+
+  pub are_short : {m : _} → Row_of-Value m → Bool
+  are_short end_of-Value = true
+  are_short (more_of-Value v rest) = is_short v && are_short rest
 
 -- the value keeps the limits on values
 abbrev pub is_within_limits : Value → Bool
-is_within_limits v = nat_le (byte_count v) VALUE_LIMIT && fold-Value Bool layer_is_short v
+is_within_limits v = nat_le (byte_count v) VALUE_LIMIT && is_short v
 
 -- the value is null, or of the representation
 abbrev pub is_of : Shape → Value → Bool
-is_of s v = fold-Value (Shape → Bool) layer_has v s && is_within_limits v
+is_of s v = has s v && is_within_limits v

@@ -4,7 +4,6 @@ ghost use Rattle.std.specs.Cmp.Lexicographic.{slice_cmp};
 ghost use Rattle.std.specs.Ordering.{int_cmp, is_gt, ordering_reverse};
 ghost use Rattle.xp_value.specs.Order.{is_same, kind as kind_of, lower_order, range_order, units, unpadded as unpadded_of, upper_order, value_order};
 ghost use Rattle.xp_value.specs.declared.value.Value.{Value};
-ghost use Rattle.xp_value.specs.declared.value.Value.TheViews.{out-Value};
 
 use crate::numbers::order_sizes;
 use crate::value::{Range, Value};
@@ -14,7 +13,7 @@ use xp_base::Dec;
 /// The order of two values: of numbers by value, of texts by bytes, of padded texts without the
 /// spaces at their ends, of arrays by their elements and then their lengths. Null comes last.
 #[cycle(order)]
-#[tactic(auto, using(crate::proofs::Layers::order_of_arrays))]
+#[tactic(auto, using(crate::proofs::Rows::order_of_arrays))]
 pub fn order(a: &Value, b: &Value) -> Ordering
     ensures { result ≡ value_order a.now b.now }
 {
@@ -69,7 +68,7 @@ pub fn order_is_total()
 
 /// The place of the value's kind among the kinds.
 fn kind(value: &Value) -> u8
-    ensures { result ≡ kind_of (out-Value value.now) }
+    ensures { result ≡ kind_of value.now }
 {
     match value {
         Value::Bool(_) => 0,

@@ -1,7 +1,8 @@
 //! The order of values by rows of the manual's rules, and copies with ample memory.
-ghost use Rattle.std.specs.Prelude.{◌≡◌, ◌≤◌, ◌<◌, true};
+ghost use Rattle.std.specs.Prelude.{◌≡◌, ◌≤◌, ◌<◌, [], ◌∷◌, codes, false, negsuc, pos, true};
+ghost use Rattle.xp_value.specs.Representation.{array_of, is_of, plain};
 
-use crate::{Range, RangeKind, Value, order, same};
+use crate::{Range, RangeKind, Rep, Value, order, same};
 use sqlite_items::Items;
 use std::alloc::Global;
 use std::cmp::Ordering;
@@ -26,6 +27,25 @@ fn bounds(lower: Option<i64>, upper: Option<i64>) -> Value {
         kind: RangeKind::Int4,
     })
 }
+
+/// Which values a representation has, as the definition computes them.
+#[tactic(auto, using(crate::proofs::Rows::array_is_of))]
+fn representations()
+    ensures null { is_of (plain Rep.Int2) Value.Null ≡ true }
+    ensures int2_least { is_of (plain Rep.Int2) (Value.Int (negsuc 32767)) ≡ true }
+    ensures int2_below { is_of (plain Rep.Int2) (Value.Int (negsuc 32768)) ≡ false }
+    ensures int2_above { is_of (plain Rep.Int2) (Value.Int (pos 32768)) ≡ false }
+    ensures int4_greatest { is_of (plain Rep.Int4) (Value.Int (pos 2147483647)) ≡ true }
+    ensures not_text { is_of (plain Rep.Text) (Value.Int (pos 1)) ≡ false }
+    ensures not_padded { is_of (plain Rep.Text) (Value.Pad (codes "a ")) ≡ false }
+    ensures last_day { is_of (plain Rep.Day) (Value.Day (pos 2932896)) ≡ true }
+    ensures year_10000 { is_of (plain Rep.Day) (Value.Day (pos 2932897)) ≡ false }
+    ensures elements { is_of (array_of (plain Rep.Int2)) (Value.Arr (Value.Int (pos 1) ∷ Value.Null ∷ [])) ≡ true }
+    ensures other_elements { is_of (array_of (plain Rep.Bool)) (Value.Arr (Value.Int (pos 1) ∷ [])) ≡ false }
+    ensures range { is_of (plain Rep.Int4Range) (Value.Rng (Range.Bounds (Some (pos 1)) None RangeKind.Int4)) ≡ true }
+    ensures crossed { is_of (plain Rep.Int4Range) (Value.Rng (Range.Bounds (Some (pos 2)) (Some (pos 2)) RangeKind.Int4)) ≡ false }
+    ensures other_kind { is_of (plain Rep.Int4Range) (Value.Rng (Range.Empty RangeKind.Day)) ≡ false }
+{}
 
 /// An array of integers, `None` being null.
 fn array(alloc: Global, elements: &[Option<i64>]) -> Result<Value, Fail> {
@@ -140,6 +160,11 @@ fn false_comes_before_true_and_numbers_and_days_ascend(rt: HostRuntime) {
         assert_eq!(rt; order(&b, &a), Ordering::Greater);
         assert!(rt; same(&a, &a));
     }
+}
+
+#[test]
+fn representations_have_their_values() {
+    representations();
 }
 
 #[test]
