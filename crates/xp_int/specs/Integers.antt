@@ -1,5 +1,5 @@
 -- Arithmetic of the integer types over whole numbers (manual 8.1.1, 9.3).
-use Rattle.std.specs.Prelude.{ℕ, ◌+◌, ◌-◌, ◌*◌, ◌%◌, ◌^◌, ℤ, pos, ◌+ℤ◌, ◌-ℤ◌, ◌*ℤ◌, neg_ℤ, unsigned_abs, int_div, int_rem, false, List, if◌then◌else◌, Result, Ok, Err, bit_and, bit_or, bit_xor}
+use Rattle.std.specs.Prelude.{ℕ, ◌-◌, ◌*◌, ◌%◌, ◌^◌, ℤ, pos, ◌+ℤ◌, ◌-ℤ◌, ◌*ℤ◌, neg_ℤ, unsigned_abs, int_div, int_rem, false, List, if◌then◌else◌, Result, Ok, Err, bit_and, bit_or, bit_xor}
 use Rattle.std.specs.Int.{Width, w16, w32, w64, cast_signed, cast_unsigned, int_rem_euclid, int_shr}
 use Rattle.std.specs.Fmt.{digits}
 use Rattle.std.specs.Ordering.{int_eq}
