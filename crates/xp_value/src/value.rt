@@ -1,0 +1,71 @@
+//! Values.
+use sqlite_items::Items;
+use xp_base::{Byts, Dec, Txt};
+
+/// The elements of an array.
+pub type Array = Items<Value>;
+
+/// The values of a row.
+pub type Row = Items<Value>;
+
+/// The first day of the year 1, in days since 1970-01-01.
+pub const FIRST_DAY: i32 = -719_162;
+
+/// The last day of the year 9999, in days since 1970-01-01.
+pub const LAST_DAY: i32 = 2_932_896;
+
+/// How a type's values are kept: the first three with `Int` in an `Int` of that type's range, and
+/// the three with `Range` in a `Rng` over that subtype.
+#[derive(Clone, Copy, Debug, PartialEq, Eq)]
+pub enum Rep {
+    Bool,
+    Int2,
+    Int4,
+    Int8,
+    Num,
+    Text,
+    Pad,
+    Bytes,
+    Day,
+    Arr,
+    Int4Range,
+    Int8Range,
+    DateRange,
+    Opaque,
+}
+
+/// The type of a range's bounds.
+#[derive(Clone, Copy, Debug, PartialEq, Eq)]
+pub enum RangeKind {
+    Int4,
+    Int8,
+    Day,
+}
+
+/// A range of whole numbers or days.
+#[derive(Clone, Copy, Debug, PartialEq, Eq)]
+pub enum Range {
+    Empty {
+        kind: RangeKind,
+    },
+    Bounds {
+        lower: Option<i64>,
+        upper: Option<i64>,
+        kind: RangeKind,
+    },
+}
+
+#[derive(Debug, Drop)]
+pub enum Value {
+    Null,
+    Bool(bool),
+    Int(i64),
+    Num(Dec),
+    Text(Txt),
+    Pad(Txt),
+    Bytes(Byts),
+    Day(i32),
+    Arr(Array),
+    Rng(Range),
+    Opaque(Txt),
+}
