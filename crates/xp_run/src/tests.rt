@@ -198,12 +198,11 @@ fn a_failing_put_leaves_the_lines_before_it(rt: HostRuntime) -> Result<(), Fail>
         status: 4,
         end: Ending::WriteFault,
     };
-    let mut put = 1;
-    for before in rows {
+    for (k, before) in rows.iter().enumerate() {
+        let put = (k as u64).saturating_add(1);
         let seen = ran(alloc, &["run", "c", "s"], texts, 0, put)?;
         assert_eq!(rt; seen.exit, fault);
         assert_eq!(rt; seen.written.as_slice(), before.as_bytes());
-        put += 1;
     }
     Ok(())
 }

@@ -32,6 +32,7 @@ impl Value {
     }
 }
 
+/// Copies of the values of a list, in their order.
 #[cycle(copy)]
 pub fn copy_all(alloc: Global, values: &[Value]) -> Result<Array, Memory>
     ensures { IfOk result (λ copies. copies ≡ values.now) }

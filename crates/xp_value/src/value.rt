@@ -55,17 +55,25 @@ pub enum Range {
     },
 }
 
+/// A value, which may be null whatever its type (manual chapter 8).
 #[derive(Debug, Drop)]
 pub enum Value {
     Null,
     Bool(bool),
+    /// An int2, int4 or int8.
     Int(i64),
+    /// A numeric.
     Num(Dec),
+    /// A text or varchar.
     Text(Txt),
+    /// A bpchar, with its padding.
     Pad(Txt),
+    /// A bytea.
     Bytes(Byts),
+    /// A date, in days since 1970-01-01.
     Day(i32),
     Arr(Array),
     Rng(Range),
+    /// The text of a value whose type isn't evaluated.
     Opaque(Txt),
 }
