@@ -1,9 +1,8 @@
 -- The bodies over two int4, over whole numbers (manual 9.2, 9.3).
-use Rattle.std.specs.Prelude.{ℕ, ◌^◌, ◌==◌, Bool, ◌+ℤ◌, ◌-ℤ◌, ◌*ℤ◌, ℤ, pos, negsuc, nat_lt, cond, int_div, int_rem, Option, Some, None, Result, Ok, Err}
-use lib.Signed.{lt_z}
-use Rattle.std.specs.Ordering.{int_eq}
+use Rattle.std.specs.Prelude.{ℕ, ◌==◌, ℤ, cond, Option, Some, None, Result, Ok, Err}
+use Rattle.std.specs.Ordering.{int_cmp, is_eq, is_gt, is_lt}
 use Rattle.xp_base.specs.declared.codes.EvalError.{EvalError}
-use Rattle.xp_base.specs.declared.codes.EvalError.TheVariants.{DivisionByZero, OutOfRange}
+use Rattle.xp_int.specs.Integers.{difference, int4, product, quotient, remainder, sum}
 use Rattle.xp_run.specs.declared.value.Value.{Value}
 use Rattle.xp_run.specs.declared.value.Value.TheVariants.{Int, Truth}
 use Rattle.xp_run.specs.declared.integers.Operation.{Operation}
@@ -15,28 +14,18 @@ operation_at n =
     cond (n == 0) (Some Add) (cond (n == 1) (Some Subtract) (cond (n == 2) (Some Multiply) (cond (n == 3) (Some Divide) (cond (n == 4) (Some Modulo)
     (cond (n == 5) (Some Equal) (cond (n == 6) (Some Less) (cond (n == 7) (Some Greater) None)))))))
 
-abbrev pub fits_int4 : ℤ → Bool
-fits_int4 (pos n) = nat_lt n (2 ^ 31)
-fits_int4 (negsuc n) = nat_lt n (2 ^ 31)
+-- a number or an error as a value or an error
+abbrev pub number_of : Result ℤ EvalError → Result Value EvalError
+number_of (Ok z) = Ok (Int z)
+number_of (Err error) = Err error
 
--- the number, if it is an int4
-abbrev pub int4_result : ℤ → Result Value EvalError
-int4_result z = cond (fits_int4 z) (Ok (Int z)) (Err OutOfRange)
-
--- cut toward zero
-abbrev pub quotient_of : ℤ → ℤ → Result Value EvalError
-quotient_of a b = cond (int_eq b (pos 0)) (Err DivisionByZero) (int4_result (int_div a b))
-
--- with the dividend's sign
-abbrev pub remainder_of : ℤ → ℤ → Result Value EvalError
-remainder_of a b = cond (int_eq b (pos 0)) (Err DivisionByZero) (int4_result (int_rem a b))
-
+-- the arithmetic of int4, and the order of whole numbers
 abbrev pub outcome_of : Operation → ℤ → ℤ → Result Value EvalError
-outcome_of Add a b = int4_result (a +ℤ b)
-outcome_of Subtract a b = int4_result (a -ℤ b)
-outcome_of Multiply a b = int4_result (a *ℤ b)
-outcome_of Divide a b = quotient_of a b
-outcome_of Modulo a b = remainder_of a b
-outcome_of Equal a b = Ok (Truth (int_eq a b))
-outcome_of Less a b = Ok (Truth (lt_z a b))
-outcome_of Greater a b = Ok (Truth (lt_z b a))
+outcome_of Add a b = number_of (sum int4 a b)
+outcome_of Subtract a b = number_of (difference int4 a b)
+outcome_of Multiply a b = number_of (product int4 a b)
+outcome_of Divide a b = number_of (quotient int4 a b)
+outcome_of Modulo a b = number_of (remainder a b)
+outcome_of Equal a b = Ok (Truth (is_eq (int_cmp a b)))
+outcome_of Less a b = Ok (Truth (is_lt (int_cmp a b)))
+outcome_of Greater a b = Ok (Truth (is_gt (int_cmp a b)))

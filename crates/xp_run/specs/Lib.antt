@@ -6,4 +6,5 @@ pub mod Resolve
 pub mod Run
 pub mod Status
 pub mod Values
+pub mod Worked
 pub mod Writing

@@ -1,9 +1,10 @@
 //! The bodies over two int4 (manual 9.2, 9.3).
-ghost use Rattle.std.specs.Prelude.{◌≡◌, ◌+ℤ◌, ◌-ℤ◌, ◌*ℤ◌};
-ghost use Rattle.xp_run.specs.Integers.{int4_result, operation_at, outcome_of, quotient_of, remainder_of};
+ghost use Rattle.std.specs.Prelude.{◌≡◌};
+ghost use Rattle.xp_run.specs.Integers.{number_of, operation_at, outcome_of};
 
 use crate::value::Value;
 use xp_base::{BodyNo, EvalError};
+use xp_int::{add_int4, div_int4, eq_int, gt_int, lt_int, mod_int4, mul_int4, sub_int4};
 
 /// What a body does with its two arguments.
 #[derive(Clone, Copy, Debug, PartialEq, Eq)]
@@ -35,54 +36,13 @@ pub fn operation_of(body: BodyNo) -> Option<Operation>
     }
 }
 
-fn sum(a: i32, b: i32) -> Result<Value, EvalError>
-    ensures { result ≡ int4_result (a +ℤ b) }
+fn number(outcome: Result<i32, EvalError>) -> Result<Value, EvalError>
+    ensures { result ≡ number_of outcome }
 {
-    match a.checked_add(b) {
-        Some(number) => Ok(Value::Int(number)),
-        None => Err(EvalError::OutOfRange),
+    match outcome {
+        Ok(number) => Ok(Value::Int(number)),
+        Err(error) => Err(error),
     }
-}
-
-fn difference(a: i32, b: i32) -> Result<Value, EvalError>
-    ensures { result ≡ int4_result (a -ℤ b) }
-{
-    match a.checked_sub(b) {
-        Some(number) => Ok(Value::Int(number)),
-        None => Err(EvalError::OutOfRange),
-    }
-}
-
-fn product(a: i32, b: i32) -> Result<Value, EvalError>
-    ensures { result ≡ int4_result (a *ℤ b) }
-{
-    match a.checked_mul(b) {
-        Some(number) => Ok(Value::Int(number)),
-        None => Err(EvalError::OutOfRange),
-    }
-}
-
-/// The quotient, cut toward zero.
-fn quotient(a: i32, b: i32) -> Result<Value, EvalError>
-    ensures { result ≡ quotient_of a b }
-{
-    if b == 0 {
-        return Err(EvalError::DivisionByZero);
-    }
-    match a.checked_div(b) {
-        Some(number) => Ok(Value::Int(number)),
-        None => Err(EvalError::OutOfRange),
-    }
-}
-
-/// The remainder, which has the dividend's sign.
-fn remainder(a: i32, b: i32) -> Result<Value, EvalError>
-    ensures { result ≡ remainder_of a b }
-{
-    if b == 0 {
-        return Err(EvalError::DivisionByZero);
-    }
-    Ok(Value::Int(a.wrapping_rem(b)))
 }
 
 /// What the operation yields.
@@ -90,13 +50,13 @@ pub fn apply(operation: Operation, a: i32, b: i32) -> Result<Value, EvalError>
     ensures { result ≡ outcome_of operation a b }
 {
     match operation {
-        Operation::Add => sum(a, b),
-        Operation::Subtract => difference(a, b),
-        Operation::Multiply => product(a, b),
-        Operation::Divide => quotient(a, b),
-        Operation::Modulo => remainder(a, b),
-        Operation::Equal => Ok(Value::Truth(a == b)),
-        Operation::Less => Ok(Value::Truth(a < b)),
-        Operation::Greater => Ok(Value::Truth(a > b)),
+        Operation::Add => number(add_int4(a, b)),
+        Operation::Subtract => number(sub_int4(a, b)),
+        Operation::Multiply => number(mul_int4(a, b)),
+        Operation::Divide => number(div_int4(a, b)),
+        Operation::Modulo => number(mod_int4(a, b)),
+        Operation::Equal => Ok(Value::Truth(eq_int(i64::from(a), i64::from(b)))),
+        Operation::Less => Ok(Value::Truth(lt_int(i64::from(a), i64::from(b)))),
+        Operation::Greater => Ok(Value::Truth(gt_int(i64::from(a), i64::from(b)))),
     }
 }

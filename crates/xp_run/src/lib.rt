@@ -12,9 +12,11 @@ mod report;
 mod resolve;
 mod value;
 mod words;
+mod worked;
 
 pub use ending::{Ending, Exit};
 pub use program::run;
+pub use worked::worked_reports;
 
 #[cfg(test)]
 mod tests;
