@@ -1,0 +1,13 @@
+pub mod Bits
+pub mod Front
+pub mod Samples
+pub mod Continued
+pub mod Sound
+pub mod Look
+pub mod Complete
+pub mod Fronts
+pub mod Exact
+pub mod Prefix
+pub mod Fix
+pub mod Turns
+pub mod Straight

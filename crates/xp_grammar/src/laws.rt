@@ -1,0 +1,15 @@
+//! What holds of the grammar, whatever parser reads by it.
+ghost use Rattle.std.specs.Prelude.{◌≡◌, ℕ, List, Ok, Err};
+ghost use Rattle.xp_lexer.specs.declared.token.Token.{Token};
+ghost use Rattle.xp_grammar.specs.Reads.{Fault, IsStatement, read};
+ghost use Rattle.xp_grammar.specs.Table.{Value};
+
+/// A list of tokens is at most one statement. `read` finds it where there is one, and finds nothing
+/// else; where there is none it names the first token with which no statement continues, by the
+/// number of tokens from it on. It does nothing: its contract is the law.
+pub fn grammar_has_one_reading()
+    ensures one { (ts : List Token) (v w : Value) → IsStatement ts v → IsStatement ts w → v ≡ w }
+    ensures sound { (ts : List Token) (v : Value) → read ts ≡ Ok v → IsStatement ts v }
+    ensures complete { (ts : List Token) (v : Value) → IsStatement ts v → read ts ≡ Ok v }
+    ensures fault { (ts : List Token) (n : ℕ) → read ts ≡ Err n → Fault ts n }
+{}
