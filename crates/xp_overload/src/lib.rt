@@ -5,10 +5,12 @@ mod categories;
 mod choice;
 mod demands;
 mod known;
+mod laws;
 mod matches;
 mod slots;
 
 pub use choice::{Choice, choose};
+pub use laws::{one_stays, some_are_left};
 pub use slots::{CandSlots, InSlot};
 
 #[cfg(test)]

@@ -2,7 +2,7 @@
 use sqlite_items::Items;
 use xp_base::TypeNo;
 
-/// A type with its category (manual 52.64, `typcategory`), and whether it is preferred there. An
+/// A type with its category (manual 53.64), and whether it is preferred there. An
 /// unknown input has category X.
 #[derive(Clone, Copy, Debug, PartialEq, Eq)]
 pub struct InSlot {
