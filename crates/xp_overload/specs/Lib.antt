@@ -1,0 +1,4 @@
+pub mod Places
+pub mod Matches
+pub mod Categories
+pub mod Choosing
