@@ -1,0 +1,4 @@
+pub mod Agreeing
+pub mod Count
+pub mod Families
+pub mod Rows

@@ -1,0 +1,203 @@
+//! The table of bodies, and its rows by name and by number.
+ghost use Rattle.std.specs.Prelude.{◌≡◌, ◌<◌, ◌^◌, IfSome, Some, length, map, option_map, slice_get};
+ghost use Rattle.std.specs.List.{position};
+ghost use Rattle.std.specs.Str.{bytes_eq};
+ghost use Rattle.xp_bodies.specs.Row.{row_of, rows_of};
+ghost use Rattle.xp_bodies.specs.Table.{arithmetic, arrays, bodies, body_named, comparisons, dates, edits, integers, numerics, place_named, ranges, texts};
+
+use crate::bodies_of;
+use xp_base::BodyNo;
+use xp_catalog::Volatility;
+
+/// What a function with this body takes and gives. Types go by their names.
+#[derive(Clone, Copy, Debug)]
+pub struct BodySig {
+    pub name: &'static str,
+    pub args: &'static [&'static str],
+    pub variadic: bool,
+    pub result: &'static str,
+    pub strict: bool,
+    pub volatility: Volatility,
+}
+
+macro_rules! is_variadic {
+    (variadic $($word:ident)*) => { true };
+    ($($word:ident)*) => { false };
+}
+
+macro_rules! is_strict {
+    () => { true };
+    (on_null) => { false };
+    ($first:ident $($word:ident)*) => { is_strict!($($word)*) };
+}
+
+macro_rules! volatility {
+    () => { Volatility::Immutable };
+    (stable $($word:ident)*) => { Volatility::Stable };
+    ($first:ident $($word:ident)*) => { volatility!($($word)*) };
+}
+
+macro_rules! rows {
+    ($($name:ident($($arg:literal),*) -> $result:literal $($word:ident)*;)*) => {
+        [$(BodySig {
+            name: stringify!($name),
+            args: &[$($arg),*],
+            variadic: is_variadic!($($word)*),
+            result: $result,
+            strict: is_strict!($($word)*),
+            volatility: volatility!($($word)*),
+        }),*]
+    };
+}
+
+static ARITHMETIC: [BodySig; 36] = bodies_of!(arithmetic, rows);
+
+static COMPARISONS: [BodySig; 54] = bodies_of!(comparisons, rows);
+
+static INTEGERS: [BodySig; 46] = bodies_of!(integers, rows);
+
+static NUMERICS: [BodySig; 30] = bodies_of!(numerics, rows);
+
+static TEXTS: [BodySig; 43] = bodies_of!(texts, rows);
+
+static EDITS: [BodySig; 34] = bodies_of!(edits, rows);
+
+static DATES: [BodySig; 12] = bodies_of!(dates, rows);
+
+static ARRAYS: [BodySig; 26] = bodies_of!(arrays, rows);
+
+static RANGES: [BodySig; 33] = bodies_of!(ranges, rows);
+
+fn arithmetic() -> &'static [BodySig]
+    ensures { map (λ row. row_of row) result.now ≡ arithmetic }
+{
+    &ARITHMETIC
+}
+
+fn comparisons() -> &'static [BodySig]
+    ensures { map (λ row. row_of row) result.now ≡ comparisons }
+{
+    &COMPARISONS
+}
+
+fn integers() -> &'static [BodySig]
+    ensures { map (λ row. row_of row) result.now ≡ integers }
+{
+    &INTEGERS
+}
+
+fn numerics() -> &'static [BodySig]
+    ensures { map (λ row. row_of row) result.now ≡ numerics }
+{
+    &NUMERICS
+}
+
+fn texts() -> &'static [BodySig]
+    ensures { map (λ row. row_of row) result.now ≡ texts }
+{
+    &TEXTS
+}
+
+fn edits() -> &'static [BodySig]
+    ensures { map (λ row. row_of row) result.now ≡ edits }
+{
+    &EDITS
+}
+
+fn dates() -> &'static [BodySig]
+    ensures { map (λ row. row_of row) result.now ≡ dates }
+{
+    &DATES
+}
+
+fn arrays() -> &'static [BodySig]
+    ensures { map (λ row. row_of row) result.now ≡ arrays }
+{
+    &ARRAYS
+}
+
+fn ranges() -> &'static [BodySig]
+    ensures { map (λ row. row_of row) result.now ≡ ranges }
+{
+    &RANGES
+}
+
+/// All rows. A body's number is its place among them.
+fn families() -> [&'static [BodySig]; 9]
+    ensures { rows_of result ≡ bodies }
+{
+    [
+        arithmetic(),
+        comparisons(),
+        integers(),
+        numerics(),
+        texts(),
+        edits(),
+        dates(),
+        arrays(),
+        ranges(),
+    ]
+}
+
+/// The place of the first row of that name in a family.
+fn place_of(family: &[BodySig], name: &str) -> Option<usize>
+    ensures value { result ≡ position (λ row. bytes_eq row.name.now name.now) family.now }
+    ensures within { IfSome result (λ place. place < length family.now) }
+{
+    family.iter().position(|row| row.name == name)
+}
+
+/// The place of the first row of that name.
+fn place_among(families: &[&[BodySig]], name: &str) -> Option<usize>
+    requires { length (rows_of families.now) < 2 ^ 32 }
+    ensures { result ≡ place_named name.now (rows_of families.now) }
+{
+    let mut before = 0;
+    for family in families {
+        match place_of(family, name) {
+            Some(place) => return Some(before + place),
+            None => before += family.len(),
+        }
+    }
+    None
+}
+
+/// The row at a place.
+fn row_among(families: &[&[BodySig]], place: usize) -> Option<BodySig>
+    ensures { option_map (λ row. row_of row) result ≡ slice_get (rows_of families.now) place }
+{
+    let mut left = place;
+    for family in families {
+        if left < family.len() {
+            return Some(family[left]);
+        }
+        left -= family.len();
+    }
+    None
+}
+
+/// The number of the body of that name.
+pub fn body_named(name: &str) -> Option<BodyNo>
+    ensures value { result ≡ body_named name.now }
+    ensures within { IfSome result (λ body. body.0 < length bodies) }
+{
+    match place_among(&families(), name) {
+        Some(place) => Some(BodyNo(place as u32)),
+        None => None,
+    }
+}
+
+/// The row of that number, if there is one.
+pub(crate) fn row_at(body: BodyNo) -> Option<BodySig>
+    ensures { option_map (λ row. row_of row) result ≡ slice_get bodies body.0 }
+{
+    row_among(&families(), body.0 as usize)
+}
+
+/// The row of the body of that number.
+pub fn sig(body: BodyNo) -> BodySig
+    requires { body.0 < length bodies }
+    ensures { slice_get bodies body.0 ≡ Some (row_of result) }
+{
+    row_at(body).unwrap()
+}
