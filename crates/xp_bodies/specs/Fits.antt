@@ -1,5 +1,5 @@
 -- A function is as its body says (this project's own).
-use Rattle.std.specs.Prelude.{ℕ, ◌<◌, List, [], ◌∷◌, Bool, true, false, ◌&&◌, Option, Some, None, length, slice_get}
+use Rattle.std.specs.Prelude.{◌≡◌, ℕ, List, [], ◌∷◌, Bool, true, false, ◌&&◌, Option, Some, None, slice_get}
 use Rattle.std.specs.List.{All}
 use Rattle.std.specs.Str.{bytes_eq}
 use Rattle.std.proofs.Math.Bool.{beq}
@@ -12,11 +12,6 @@ use Rattle.xp_catalog.specs.declared.rows.Volatility.TheVariants.{Immutable, Sta
 use Rattle.xp_catalog.specs.Contents.{Contents}
 use Rattle.xp_bodies.specs.Row.{Row}
 use Rattle.xp_bodies.specs.Table.{bodies}
-
--- the function's types are types of the catalogue
-pub record HasTypes (c : Contents) (f : FuncRow) : Type 0 where
-  pub args : All (λ type. type.0 < length c.types) f.args
-  pub result : f.result.0 < length c.types
 
 -- immutable, stable and volatile, each looser than the one before
 abbrev pub is_as_loose : Volatility → Volatility → Bool
@@ -54,3 +49,7 @@ fits_with c f (Some body) = agrees_with c f (slice_get bodies body.0)
 
 abbrev pub fits : Contents → FuncRow → Bool
 fits c f = fits_with c f f.body
+
+-- each function of the catalogue fits
+abbrev pub IsFitted : Contents → Type 0
+IsFitted c = All (λ func. fits c func ≡ true) c.funcs

@@ -1,7 +1,8 @@
 //! Whether a function is as its body says.
 ghost use Rattle.std.specs.Prelude.{◌≡◌, ◌<◌, length, map};
 ghost use Rattle.std.specs.List.{All};
-ghost use Rattle.xp_bodies.specs.Fits.{HasTypes, agrees, are_named, fits, is_as_loose, is_named};
+ghost use Rattle.xp_catalog.specs.Known.{IsKnownFunc};
+ghost use Rattle.xp_bodies.specs.Fits.{agrees, are_named, fits, is_as_loose, is_named};
 ghost use Rattle.xp_bodies.specs.Row.{row_of};
 
 use crate::BodySig;
@@ -44,7 +45,7 @@ fn are_named(c: &Catalog, types: &[TypeNo], names: &[&str]) -> bool
 }
 
 fn agrees(c: &Catalog, f: &FuncRow, body: &BodySig) -> bool
-    requires { HasTypes c.now f.now }
+    requires { IsKnownFunc c.now f.now }
     ensures { result ≡ agrees c.now f.now (row_of body.now) }
 {
     f.variadic == body.variadic
@@ -58,7 +59,7 @@ fn agrees(c: &Catalog, f: &FuncRow, body: &BodySig) -> bool
 /// is at least as loose. A function without a body fits, and one with a number that is no body's
 /// doesn't.
 pub fn fits(c: &Catalog, f: &FuncRow) -> bool
-    requires { HasTypes c.now f.now }
+    requires { IsKnownFunc c.now f.now }
     ensures { result ≡ fits c.now f.now }
 {
     match f.body {

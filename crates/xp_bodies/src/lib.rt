@@ -6,7 +6,7 @@ mod list;
 mod table;
 
 pub use fitting::fits;
-pub use table::{BodySig, body_named, sig};
+pub use table::{BodySig, body_named, row_at, sig};
 
 #[cfg(test)]
 mod tests;

@@ -187,8 +187,8 @@ pub fn body_named(name: &str) -> Option<BodyNo>
     }
 }
 
-/// The row of that number, if there is one.
-pub(crate) fn row_at(body: BodyNo) -> Option<BodySig>
+/// The row of the body of that number, if there is one.
+pub fn row_at(body: BodyNo) -> Option<BodySig>
     ensures { option_map (λ row. row_of row) result ≡ slice_get bodies body.0 }
 {
     row_among(&families(), body.0 as usize)

@@ -4,8 +4,6 @@ use Rattle.std.specs.List.{list_all, list_any}
 use Rattle.std.specs.Str.{IsAscii}
 use Rattle.std.proofs.lemmas.Bool.{eqb-true}
 use Rattle.std.proofs.lemmas.Bool.Decides.{nat_tests}
-use Rattle.xp_catalog.specs.Accepting.{field, has_first_form, is_type}
-use Rattle.xp_catalog.specs.Contents.{Contents}
 use Rattle.xp_catalog.specs.Spelling.{is_name, is_name_byte, is_operator_byte, is_operator_name}
 
 pub and_left : (a b : Bool) → (a && b) ≡ true → a ≡ true
@@ -41,11 +39,3 @@ IsAscii-from_name name h = IsAscii-from_test is_name_byte name_byte_small name (
 
 pub IsAscii-from_operator : (name : List ℕ) → is_operator_name name ≡ true → IsAscii name
 IsAscii-from_operator name h = IsAscii-from_test is_operator_byte operator_byte_small name (and_right _ _ (and_left _ _ (and_left _ _ (and_left _ _ (and_left _ _ (and_left _ _ h))))))
-
--- the name of a type record
-pub IsAscii-from_type : (before : Contents) (fields : List (List ℕ)) → is_type before fields ≡ true → IsAscii (field fields 1)
-IsAscii-from_type before fields h = IsAscii-from_name (field fields 1) (and_left _ _ (and_left _ _ (and_left _ _ (and_left _ _ (and_left _ _ (and_left _ _ h))))))
-
--- the name of a function record
-pub IsAscii-from_function : (fields : List (List ℕ)) → has_first_form fields ≡ true → IsAscii (field fields 1)
-IsAscii-from_function fields h = IsAscii-from_name (field fields 1) (and_left _ _ (and_left _ _ (and_left _ _ (and_left _ _ h))))

@@ -1,5 +1,6 @@
 pub mod Ascii
-pub mod Fields
+pub mod Built
+pub mod Keeps
 pub mod KnownRows
-pub mod OneReading
-pub mod Refused
+pub mod OneRow
+pub mod Places

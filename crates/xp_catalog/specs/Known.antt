@@ -1,63 +1,67 @@
 -- Rows whose numbers are those of rows, and how many rows there may be.
-use Rattle.std.specs.Prelude.{ℕ, ◌+◌, ◌*◌, ◌<◌, ◌≤◌, length, IfSome}
+use Rattle.std.specs.Prelude.{◌<◌, ◌≤◌, length, IfSome}
 use Rattle.std.specs.List.{All}
 use Rattle.xp_catalog.specs.declared.rows.TypeKind.{TypeKind}
 use Rattle.xp_catalog.specs.declared.rows.TypeKind.TheVariants as kind
+use Rattle.xp_catalog.specs.declared.rows.CastMethod.{CastMethod}
+use Rattle.xp_catalog.specs.declared.rows.CastMethod.TheVariants as method
+use Rattle.xp_catalog.specs.declared.rows.CastRow.{CastRow}
 use Rattle.xp_catalog.specs.declared.rows.FuncRow.{FuncRow}
 use Rattle.xp_catalog.specs.declared.rows.OperRow.{OperRow}
-use Rattle.xp_catalog.specs.declared.reading.Operands.{Operands}
-use Rattle.xp_catalog.specs.declared.reading.Signature.{Signature}
-use Rattle.xp_catalog.specs.declared.record.Record.{Record}
-use Rattle.xp_catalog.specs.declared.record.Record.TheVariants as row
-use Rattle.xp_catalog.specs.Bodies.{IsFirstBody}
+use Rattle.xp_catalog.specs.declared.rows.DomainRow.{DomainRow}
+use Rattle.xp_catalog.specs.declared.rows.RangeRow.{RangeRow}
 use Rattle.xp_catalog.specs.Contents.{Contents}
 
--- an array's element is one of `count` types; ranges and domains have no rows yet
-abbrev pub IsKnownKind : ℕ → TypeKind → Type 0
-IsKnownKind count kind.Plain = Unit {0}
-IsKnownKind count kind.Pseudo = Unit {0}
-IsKnownKind count (kind.Array element) = element.0 < count
-IsKnownKind count (kind.Range number) = ⊥
-IsKnownKind count (kind.Domain number) = ⊥
+-- an array's element, a range's row and a domain's row are there
+abbrev pub IsKnownKind : Contents → TypeKind → Type 0
+IsKnownKind c kind.Plain = Unit {0}
+IsKnownKind c kind.Pseudo = Unit {0}
+IsKnownKind c (kind.Array element) = element.0 < length c.types
+IsKnownKind c (kind.Range number) = number.0 < length c.ranges
+IsKnownKind c (kind.Domain number) = number.0 < length c.domains
 
--- a function's types are among `count`, and its body is a first one
-pub record IsKnownFunc (count : ℕ) (func : FuncRow) : Type 0 where
-  pub args : All (λ type. type.0 < count) func.args
-  pub result : func.result.0 < count
-  pub body : IsFirstBody func.body
+abbrev pub IsKnownMethod : Contents → CastMethod → Type 0
+IsKnownMethod c method.Binary = Unit {0}
+IsKnownMethod c method.None = Unit {0}
+IsKnownMethod c (method.Function number) = number.0 < length c.funcs
 
--- an operator's types are among `count`, and its function among `funcs`
-pub record IsKnownOper (count funcs : ℕ) (oper : OperRow) : Type 0 where
-  pub left : IfSome oper.left (λ type. type.0 < count)
-  pub right : oper.right.0 < count
-  pub function : oper.function.0 < funcs
+pub record IsKnownCast (c : Contents) (cast : CastRow) : Type 0 where
+  pub from : cast.from.0 < length c.types
+  pub to : cast.to.0 < length c.types
+  pub method : IsKnownMethod c cast.method
 
--- a signature of a first body over types among `count`
-pub record IsKnownSignature (count : ℕ) (signature : Signature) : Type 0 where
-  pub body : signature.body.0 < 8
-  pub operand : signature.operand.0 < count
-  pub result : signature.result.0 < count
+pub record IsKnownFunc (c : Contents) (func : FuncRow) : Type 0 where
+  pub args : All (λ type. type.0 < length c.types) func.args
+  pub result : func.result.0 < length c.types
 
--- operands among `count` types
-pub record IsKnownOperands (count : ℕ) (over : Operands) : Type 0 where
-  pub left : IfSome over.left (λ type. type.0 < count)
-  pub right : over.right.0 < count
+pub record IsKnownOper (c : Contents) (oper : OperRow) : Type 0 where
+  pub left : IfSome oper.left (λ type. type.0 < length c.types)
+  pub right : oper.right.0 < length c.types
+  pub function : oper.function.0 < length c.funcs
 
--- a record's row may stand behind these
-abbrev pub IsKnownRecord : Contents → Record → Type 0
-IsKnownRecord c (row.Type type) = IsKnownKind (length c.types) type.kind
-IsKnownRecord c (row.Function func) = IsKnownFunc (length c.types) func
-IsKnownRecord c (row.Operator oper) = IsKnownOper (length c.types) (length c.funcs) oper
+pub record IsKnownDomain (c : Contents) (domain : DomainRow) : Type 0 where
+  pub ty : domain.ty.0 < length c.types
+  pub base : domain.base.0 < length c.types
 
--- no more rows than that many records give
-pub record HasRowsOf (records : ℕ) (c : Contents) : Type 0 where
-  pub types : length c.types ≤ 2 * records + 1
-  pub funcs : length c.funcs ≤ records
-  pub opers : length c.opers ≤ records
+pub record IsKnownRange (c : Contents) (range : RangeRow) : Type 0 where
+  pub ty : range.ty.0 < length c.types
+  pub subtype : range.subtype.0 < length c.types
 
--- what holds of every catalogue
+-- no more rows than 20,000 records give
+pub record HasFewRows (c : Contents) : Type 0 where
+  pub types : length c.types ≤ 40001
+  pub casts : length c.casts ≤ 20000
+  pub funcs : length c.funcs ≤ 20000
+  pub opers : length c.opers ≤ 20000
+  pub domains : length c.domains ≤ 20000
+  pub ranges : length c.ranges ≤ 20000
+
+-- what holds of every catalogue's numbers
 pub record IsKnown (c : Contents) : Type 0 where
-  pub few : HasRowsOf 20000 c
-  pub types : All (λ type. IsKnownKind (length c.types) type.kind) c.types
-  pub funcs : All (IsKnownFunc (length c.types)) c.funcs
-  pub opers : All (IsKnownOper (length c.types) (length c.funcs)) c.opers
+  pub few : HasFewRows c
+  pub types : All (λ type. IsKnownKind c type.kind) c.types
+  pub casts : All (IsKnownCast c) c.casts
+  pub funcs : All (IsKnownFunc c) c.funcs
+  pub opers : All (IsKnownOper c) c.opers
+  pub domains : All (IsKnownDomain c) c.domains
+  pub ranges : All (IsKnownRange c) c.ranges

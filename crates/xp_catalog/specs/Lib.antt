@@ -1,8 +1,10 @@
-pub mod Accepting
-pub mod Bodies
 pub mod Contents
+pub mod Headers
 pub mod Known
-pub mod Loading
 pub mod Lookups
+pub mod OneRow
+pub mod Rules
 pub mod Spelling
+pub mod WellFormed
 pub mod Words
+pub mod Worked

@@ -6,6 +6,7 @@ use Rattle.std.specs.Str.{bytes_eq}
 use Rattle.xp_base.specs.declared.numbers.TypeNo.{TypeNo}
 use Rattle.xp_base.specs.declared.numbers.RowNo.{RowNo}
 use Rattle.xp_catalog.specs.declared.rows.TypeRow.{TypeRow}
+use Rattle.xp_catalog.specs.declared.rows.CastRow.{CastRow}
 use Rattle.xp_catalog.specs.declared.rows.FuncRow.{FuncRow}
 use Rattle.xp_catalog.specs.declared.rows.OperRow.{OperRow}
 use Rattle.xp_catalog.specs.Contents.{Contents}
@@ -41,6 +42,13 @@ type_named c name = cond (bytes_eq name (codes "unknown")) None (option_map type
 -- the function of that name with exactly these arguments
 abbrev pub func_at : Contents → List ℕ → List TypeNo → Option RowNo
 func_at c name args = option_map row_number (position (has_arguments name args) c.funcs)
+
+abbrev pub is_between : TypeNo → TypeNo → CastRow → Bool
+is_between from to row = row.from.0 == from.0 && row.to.0 == to.0
+
+-- the cast from one type to the other
+abbrev pub cast_between : Contents → TypeNo → TypeNo → Option RowNo
+cast_between c from to = option_map row_number (position (is_between from to) c.casts)
 
 -- the operator of that name with exactly these operands
 abbrev pub oper_at : Contents → List ℕ → List TypeNo → Option RowNo

@@ -28,9 +28,15 @@ pseudo_names =
 abbrev pub range_names : List (List ℕ)
 range_names = codes "int4range" ∷ codes "int8range" ∷ codes "daterange" ∷ []
 
--- the name of a plain type
+-- names that only records of plain types may give
+abbrev pub plain_names : List (List ℕ)
+plain_names =
+    codes "bool" ∷ codes "int2" ∷ codes "int4" ∷ codes "int8" ∷ codes "numeric" ∷ codes "text" ∷ codes "varchar" ∷ codes "bpchar"
+    ∷ codes "bytea" ∷ codes "date" ∷ []
+
+-- the name of a type, a range or a domain
 abbrev pub is_type_name : List ℕ → Bool
-is_type_name name = is_name name && not (bytes_eq name (codes "unknown")) && not (is_among pseudo_names name) && not (is_among range_names name)
+is_type_name name = is_name name && not (bytes_eq name (codes "unknown"))
 
 abbrev pub number_names : List (List ℕ)
 number_names = codes "int2" ∷ codes "int4" ∷ codes "int8" ∷ codes "numeric" ∷ []
@@ -41,15 +47,16 @@ text_names = codes "text" ∷ codes "varchar" ∷ codes "bpchar" ∷ []
 -- the categories that a type of that name may have
 abbrev pub letters_of : List ℕ → List ℕ
 letters_of name =
+    cond (is_among pseudo_names name) (codes "P") (
     cond (bytes_eq name (codes "bool")) (codes "B") (
     cond (is_among number_names name) (codes "N") (
     cond (is_among text_names name) (codes "S") (
     cond (bytes_eq name (codes "bytea")) (codes "U") (
-    cond (bytes_eq name (codes "date")) (codes "D") (codes "BCDEGINSTUVZ")))))
+    cond (bytes_eq name (codes "date")) (codes "D") (codes "BCDEGINSTUVZ"))))))
 
--- one of those letters, alone
-abbrev pub is_letter_of : List ℕ → List ℕ → Bool
-is_letter_of name letter = length letter == 1 && list_any (λ b. b == slice_index letter 0) (letters_of name)
+-- one of those letters
+abbrev pub is_letter_of : List ℕ → ℕ → Bool
+is_letter_of name letter = list_any (λ b. b == letter) (letters_of name)
 
 abbrev pub is_flag : List ℕ → Bool
 is_flag flag = bytes_eq flag (codes "t") || bytes_eq flag (codes "f")

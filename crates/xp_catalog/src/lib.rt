@@ -1,20 +1,24 @@
-//! The catalogue: its rows, its look-ups, and its loader.
+//! The catalogue: its rows, what a record adds to them, and the look-ups.
 #![tactic(auto)]
 
-mod arrays;
 mod catalog;
-mod loader;
+mod header;
+mod laws;
 mod lookups;
-mod names;
-mod reading;
+pub mod names;
 mod record;
 mod rows;
-mod text;
+mod types;
 mod why;
 
 pub use catalog::{Catalog, Counts};
-pub use loader::load;
-pub use rows::{FuncRow, OperRow, TypeKind, TypeRow, Volatility};
+pub use header::{Header, HeaderColumn};
+pub use laws::look_ups_find_the_one_row;
+pub use record::Record;
+pub use rows::{
+    CastMethod, CastRow, Context, DomainRow, FuncRow, OperRow, RangeRow, TypeKind, TypeRow,
+    Volatility,
+};
 pub use why::{CatFault, Why};
 
 #[cfg(test)]

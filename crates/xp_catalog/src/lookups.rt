@@ -1,9 +1,9 @@
 //! Places in lists of rows.
 ghost use Rattle.std.specs.Prelude.{◌≡◌, ◌<◌, IfSome, length};
 ghost use Rattle.std.specs.List.{position};
-ghost use Rattle.xp_catalog.specs.Lookups.{has_arguments, has_operands, has_type_name, operands, same_types};
+ghost use Rattle.xp_catalog.specs.Lookups.{has_arguments, has_operands, has_type_name, is_between, operands, same_types};
 
-use crate::{FuncRow, OperRow, TypeRow};
+use crate::{CastRow, FuncRow, OperRow, TypeRow};
 use xp_base::TypeNo;
 
 fn same_types(a: &[TypeNo], b: &[TypeNo]) -> bool
@@ -30,6 +30,16 @@ pub fn place_of_type(types: &[TypeRow], name: &[u8]) -> Option<usize>
     types
         .iter()
         .position(|row| row.name.as_str().as_bytes() == name)
+}
+
+/// The place of the first cast from one type to the other.
+pub fn place_of_cast(casts: &[CastRow], from: TypeNo, to: TypeNo) -> Option<usize>
+    ensures value { result ≡ position (is_between from to) casts.now }
+    ensures within { IfSome result (λ place. place < length casts.now) }
+{
+    casts
+        .iter()
+        .position(|row| row.from == from && row.to == to)
 }
 
 /// The place of the first function of that name with exactly these arguments.

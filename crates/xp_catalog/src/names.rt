@@ -2,7 +2,7 @@
 ghost use Rattle.std.specs.Prelude.{◌≡◌, ◌<◌, IfOk, length, ◌==◌};
 ghost use Rattle.std.specs.List.{list_all, list_any};
 ghost use Rattle.std.specs.Str.{IsAscii};
-ghost use Rattle.xp_catalog.specs.Spelling.{begins_with, has_pair, is_among, is_digit, is_flag, is_letter_of, is_name, is_name_byte, is_operator, is_operator_byte, is_operator_name, is_sign, is_special_byte, is_type_name, letters_of, may_end, number_names, pseudo_names, range_names, text_names};
+ghost use Rattle.xp_catalog.specs.Spelling.{begins_with, has_pair, is_among, is_digit, is_flag, is_letter_of, is_name, is_name_byte, is_operator, is_operator_byte, is_operator_name, is_sign, is_special_byte, is_type_name, letters_of, may_end, number_names, plain_names, pseudo_names, range_names, text_names};
 
 use std::alloc::Global;
 use xp_base::{Memory, Name};
@@ -36,7 +36,8 @@ pub fn is_name(name: &[u8]) -> bool
     name.len() <= 63 && has_name_bytes(name) && !is_digit(first)
 }
 
-fn is_pseudo(name: &[u8]) -> bool
+/// Whether the bytes name a pseudo-type.
+pub fn is_pseudo(name: &[u8]) -> bool
     ensures { result ≡ is_among pseudo_names name.now }
 {
     name == b"any".as_slice()
@@ -50,7 +51,8 @@ fn is_pseudo(name: &[u8]) -> bool
         || name == b"anycompatiblerange".as_slice()
 }
 
-fn is_range(name: &[u8]) -> bool
+/// Whether the bytes are a name that only a record of a range may give.
+pub fn is_range(name: &[u8]) -> bool
     ensures { result ≡ is_among range_names name.now }
 {
     name == b"int4range".as_slice()
@@ -58,11 +60,22 @@ fn is_range(name: &[u8]) -> bool
         || name == b"daterange".as_slice()
 }
 
-/// Whether the bytes may name a plain type.
+/// Whether the bytes are a name that only a record of a plain type may give.
+pub fn is_plain(name: &[u8]) -> bool
+    ensures { result ≡ is_among plain_names name.now }
+{
+    name == b"bool".as_slice()
+        || is_number_type(name)
+        || is_text_type(name)
+        || name == b"bytea".as_slice()
+        || name == b"date".as_slice()
+}
+
+/// Whether the bytes may name a type, a range or a domain.
 pub fn is_type_name(name: &[u8]) -> bool
     ensures { result ≡ is_type_name name.now }
 {
-    is_name(name) && name != b"unknown".as_slice() && !is_pseudo(name) && !is_range(name)
+    is_name(name) && name != b"unknown".as_slice()
 }
 
 fn is_number_type(name: &[u8]) -> bool
@@ -74,7 +87,8 @@ fn is_number_type(name: &[u8]) -> bool
         || name == b"numeric".as_slice()
 }
 
-fn is_text_type(name: &[u8]) -> bool
+/// Whether the bytes name one of the three texts.
+pub fn is_text_type(name: &[u8]) -> bool
     ensures { result ≡ is_among text_names name.now }
 {
     name == b"text".as_slice() || name == b"varchar".as_slice() || name == b"bpchar".as_slice()
@@ -83,7 +97,9 @@ fn is_text_type(name: &[u8]) -> bool
 fn letters_of(name: &[u8]) -> &'static [u8]
     ensures { result.now ≡ letters_of name.now }
 {
-    if name == b"bool".as_slice() {
+    if is_pseudo(name) {
+        b"P"
+    } else if name == b"bool".as_slice() {
         b"B"
     } else if is_number_type(name) {
         b"N"
@@ -105,13 +121,14 @@ fn has_byte(bytes: &[u8], byte: u8) -> bool
     bytes.iter().any(|b| *b == byte)
 }
 
-/// Whether the field is the letter of a category that a type of that name may have.
-pub fn is_letter_of(name: &[u8], letter: &[u8]) -> bool
-    ensures { result ≡ is_letter_of name.now letter.now }
+/// Whether the letter is that of a category that a type of that name may have.
+pub fn is_letter_of(name: &[u8], letter: u8) -> bool
+    ensures { result ≡ is_letter_of name.now letter }
 {
-    letter.len() == 1 && has_byte(letters_of(name), letter[0])
+    has_byte(letters_of(name), letter)
 }
 
+/// Whether the bytes are `t` or `f`.
 pub fn is_flag(flag: &[u8]) -> bool
     ensures { result ≡ is_flag flag.now }
 {

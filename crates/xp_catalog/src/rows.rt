@@ -1,7 +1,7 @@
 //! The rows of a catalogue.
 
 use sqlite_items::Items;
-use xp_base::{BodyNo, Name, RowNo, TypeNo};
+use xp_base::{BodyNo, Byts, Name, RowNo, TypeNo};
 
 /// How far a function's result may change between calls (manual 38.7).
 #[derive(Clone, Copy, Debug, PartialEq, Eq)]
@@ -9,6 +9,26 @@ pub enum Volatility {
     Immutable,
     Stable,
     Volatile,
+}
+
+/// Where a cast is allowed (manual, CREATE CAST). An implicit cast serves every context, an assignment
+/// cast assignment and explicit context, an explicit cast explicit context alone.
+#[derive(Clone, Copy, Debug, PartialEq, Eq)]
+pub enum Context {
+    Implicit,
+    Assignment,
+    Explicit,
+}
+
+/// How a cast converts a value.
+#[derive(Clone, Copy, Debug, PartialEq, Eq)]
+pub enum CastMethod {
+    /// The value stays as it is, in the representation of the new type.
+    Binary,
+    /// A strict and immutable call of one argument that has no body.
+    None,
+    /// A call of a function with the one argument `from` and the result `to`.
+    Function(RowNo),
 }
 
 /// What a type is made of. A range and a domain have a row of their own.
@@ -54,5 +74,35 @@ pub struct OperRow {
     pub right: TypeNo,
     /// The function with the operands as its arguments.
     pub function: RowNo,
+    pub line: u32,
+}
+
+/// A cast.
+#[derive(Clone, Copy, Debug)]
+pub struct CastRow {
+    pub from: TypeNo,
+    pub to: TypeNo,
+    pub context: Context,
+    pub method: CastMethod,
+    pub line: u32,
+}
+
+/// A domain, whose type is `ty`. Its check is empty where it has none.
+#[derive(Debug, Drop)]
+pub struct DomainRow {
+    pub name: Name,
+    pub ty: TypeNo,
+    pub base: TypeNo,
+    pub not_null: bool,
+    pub check: Byts,
+    pub line: u32,
+}
+
+/// A range type, which is `ty`.
+#[derive(Debug, Drop)]
+pub struct RangeRow {
+    pub name: Name,
+    pub ty: TypeNo,
+    pub subtype: TypeNo,
     pub line: u32,
 }

@@ -46,10 +46,11 @@ impl Why {
     }
 }
 
-/// Why a text is no catalogue: its first record that isn't accepted, counted from 1, or want of
-/// memory.
+/// Why a text is no catalogue: its first record that isn't accepted, the record behind the last that
+/// a catalogue may have, or want of memory. Records are counted from 1.
 #[derive(Clone, Copy, Debug, PartialEq, Eq)]
 pub enum CatFault {
     Row { line: u32, why: Why },
+    TooManyRows { line: u32 },
     Memory,
 }

@@ -6,7 +6,7 @@ use Rattle.xp_grammar.specs.Reads.{IsStatement, IsFront, Stuck, Fault, read}
 use Rattle.xp_grammar.proofs.Continued.{cut}
 use Rattle.xp_grammar.proofs.Exact.{read_is_derived, err_is_fault}
 
-begun : (u a b : List Token) → u ≡ a ++ b → IsFront u → IsFront a
+pub begun : (u a b : List Token) → u ≡ a ++ b → IsFront u → IsFront a
 begun u a b e (r, v, d) = (b ++ r, v, subst (λ z. IsStatement z v) (ap (λ z. z ++ r) e ∙ append_assoc a b r) d)
 
 stuck_last : (ts u r u' r' : List Token) → ts ≡ u ++ r → ts ≡ u' ++ r' → Stuck u r → IsFront u' → length r ≤ length r'

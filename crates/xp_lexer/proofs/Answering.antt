@@ -18,7 +18,7 @@ use Rattle.xp_lexer.proofs.Tokens.{gap_is, stop_is, reads_are, bad_is, PieceIs, 
 use Rattle.xp_lexer.proofs.Whole.{statement_is, front_front, statement_gap, statement_end, statement_token, gap_shorter, token_shorter}
 
 -- a sign that may stand alone here does
-abbrev Alone : Bool → Text → Type 0
+abbrev pub Alone : Bool → Text → Type 0
 Alone alone z = alone ≡ true → operator_len 0 1 false z ≡ 1
 
 piece_alone : (alone : Bool) (z : Text) → Alone alone z → piece alone z ≡ piece false z
@@ -105,10 +105,10 @@ unfolding admitted
 refuses_more room z rest k e = rw e refl
 
 -- what is left of a statement behind white space, comments and tokens
-abbrev Left : ℕ → ℕ → Bool → Text → List Placed → Text → Type 0
+abbrev pub Left : ℕ → ℕ → Bool → Text → List Placed → Text → Type 0
 Left total room alone z tokens y = (after : Bool) × Alone after y × (statement total room alone z ≡ with_front tokens (statement total (room - length tokens) after y))
 
-passes_are : (total room : ℕ) (alone : Bool) (z : Text) (tokens : List Placed) (y : Text) → length z < 2 ^ 32 → length tokens ≤ room → Alone alone z → Passes total z tokens y → Left total room alone z tokens y × (length y ≤ length z)
+pub passes_are : (total room : ℕ) (alone : Bool) (z : Text) (tokens : List Placed) (y : Text) → length z < 2 ^ 32 → length tokens ≤ room → Alone alone z → Passes total z tokens y → Left total room alone z tokens y × (length y ≤ length z)
 passes_are total room alone z tokens y fits few ok (Passes.here w) =
     let e : room - 0 ≡ room = omega arith in
     ((alone, ok, rw e (sym (front_nil (statement total room alone w)))), omega arith)

@@ -1,8 +1,10 @@
 pub mod Answering
 pub mod Ascii
 pub mod Constants
+pub mod Ending
 pub mod Fronts
 pub mod Gaps
+pub mod Holding
 pub mod Numerals
 pub mod Parts
 pub mod Powers

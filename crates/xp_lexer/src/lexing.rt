@@ -3,6 +3,7 @@ ghost use Rattle.std.specs.Prelude.{◌≡◌, ◌<◌, ◌≤◌, ◌^◌, ◌-
 ghost use Rattle.xp_lexer.specs.Cutting as spec;
 ghost use Rattle.xp_lexer.specs.Meaning as meaning;
 ghost use Rattle.xp_lexer.specs.Grammar.{IsAnswer, IsRight};
+ghost use Rattle.xp_lexer.specs.Ended.{is_ended, are_plain};
 ghost use Rattle.xp_lexer.specs.Lexemes.{seen, placed, all_placed};
 
 use crate::bytes::{byte, is_name_byte};
@@ -136,6 +137,15 @@ pub fn lex(alloc: Global, text: &[u8], from: u64) -> Result<Lexed, LexFault>
     ensures right { IsRight text.now from result }
     // The statement is nothing else, and what it is is answered, unless memory ran out.
     ensures only { (answer : meaning.Answer) → IsAnswer text.now from answer → spec.Answers result answer }
+    // The answer is told by a function of the text.
+    ensures value { spec.Answers result (spec.lexed text.now from) }
+    // An End stands behind tokens that are none.
+    ensures ends { IfOk result (λ l. is_ended (all_placed l.tokens) ≡ true) }
+    // A number isn't negative, and a whole one has no decimals.
+    ensures plain { IfOk result (λ l. are_plain (all_placed l.tokens) ≡ true) }
+    // Each statement takes a byte of the text, as long as there is one.
+    ensures within { IfOk result (λ l. l.next ≤ length text.now) }
+    ensures behind { IfOk result (λ l. from < length text.now → from < l.next) }
 {
     answer(alloc, text, from)
 }

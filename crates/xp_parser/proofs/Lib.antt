@@ -1,2 +1,11 @@
-pub mod Split
-pub mod Tokens
+pub mod ChainLaws
+pub mod Deep
+pub mod Ended
+pub mod ListLaws
+pub mod OperandLaws
+pub mod PrimaryLaws
+pub mod Settled
+pub mod StatementLaws
+pub mod Steps
+pub mod TestLaws
+pub mod TypeLaws

@@ -1,4 +1,6 @@
-pub mod Runs
-pub mod Script
-pub mod Statement
-pub mod Words
+pub mod Depth
+pub mod Nests
+pub mod Parses
+pub mod Parts
+pub mod Reading
+pub mod StatementParts

@@ -1,17 +1,28 @@
-//! Reads the statements of a script.
+//! The parser of statements (manual 4.1.6 and 4.2).
 #![tactic(auto)]
 
-mod class;
-mod cut;
-mod part;
+mod cases;
+mod chains;
+mod cursor;
+mod depth;
+mod fault;
+mod forms;
+mod grammar;
+mod held;
+mod lists;
+mod operands;
+mod parsing;
+mod predicates;
+mod primaries;
 mod reading;
-mod runs;
-mod syntax;
-mod words;
+mod statements;
+mod trouble;
+mod types;
 
-pub use cut::{behind, leading_blanks, piece_len};
-pub use reading::read_statement;
-pub use syntax::{Literal, Operand, Operator, Statement};
+pub use fault::ParseFault;
+pub use parsing::parse;
 
+#[cfg(test)]
+mod shown;
 #[cfg(test)]
 mod tests;

@@ -1,3 +1,8 @@
 pub mod Endings
+pub mod Levels
+pub mod Reading
+pub mod Reported
+pub mod Rows
 pub mod Steps
 pub mod WritesLater
+pub mod Checks

@@ -1,10 +1,12 @@
 -- The texts that a run reads, in the order in which they are looked at: the first that isn't in order names the ending.
-use Rattle.std.specs.Prelude.{◌≡◌, ℕ, ◌+◌, List, [], ◌∷◌, cond, codes, length, nat_lt, Option, Some, None, IfSome, Result, Ok, Err, ◌⊎◌}
+use Rattle.std.specs.Prelude.{◌≡◌, ℕ, ◌+◌, ◌==◌, List, [], ◌∷◌, cond, codes, length, nat_lt, Option, Some, None, IfSome, Result, Ok, Err, ◌⊎◌}
 use Rattle.std.specs.Str.{bytes_eq}
 use Rattle.xp_base.specs.Outside.{Files, text_at}
 use Rattle.xp_base.specs.declared.limits.TheConstants.{CATALOG_LIMIT, SCRIPT_LIMIT}
 use Rattle.xp_catalog.specs.Contents.{Contents}
-use Rattle.xp_catalog.specs.Loading.{load_catalog}
+use Rattle.xp_catalog.specs.declared.rows.DomainRow.{DomainRow}
+use Rattle.xp_catalog.specs.declared.why.Why.TheVariants as why
+use Rattle.xp_loader.specs.Loading.{load_catalog}
 use Rattle.xp_catalog.specs.declared.why.CatFault.{CatFault}
 use Rattle.xp_catalog.specs.declared.why.CatFault.TheVariants as fault
 use Rattle.xp_run.specs.Resolve.{and_then}
@@ -30,9 +32,20 @@ within limit (Some text) = cond (nat_lt limit (length text)) (Err (TooLong (limi
 abbrev pub text_in : Files → List ℕ → ℕ → Result (List ℕ) Ending
 text_in files name limit = within limit (text_at files name)
 
+-- the line of the first domain that has a check
+abbrev pub first_check : List DomainRow → Option ℕ
+first_check [] = None
+first_check (domain ∷ others) = cond (length domain.check == 0) (first_check others) (Some domain.line)
+
+-- checks of domains aren't built yet, so the first is refused
+abbrev pub unless_check : Option ℕ → Contents → Result Contents Ending
+unless_check None contents = Ok contents
+unless_check (Some line) contents = Err (BadCatalog line why.BadCheck)
+
 abbrev pub loaded : Result Contents CatFault → Result Contents Ending
-loaded (Ok contents) = Ok contents
-loaded (Err (fault.Row line why)) = Err (BadCatalog line why)
+loaded (Ok contents) = unless_check (first_check contents.domains) contents
+loaded (Err (fault.Row line cause)) = Err (BadCatalog line cause)
+loaded (Err (fault.TooManyRows line)) = Err (BadCatalog line why.TooMany)
 loaded (Err fault.Memory) = Err Memory
 
 abbrev pub catalog_in : Files → List ℕ → Result Contents Ending

@@ -1,9 +1,11 @@
 pub mod Answer
 pub mod Blocks
+pub mod Evaluation
 pub mod Inputs
 pub mod Integers
 pub mod Resolve
 pub mod Run
+pub mod Script
 pub mod Status
 pub mod Values
 pub mod Worked

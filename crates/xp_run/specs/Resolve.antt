@@ -1,59 +1,86 @@
--- The type and the expression of a statement, or its refusal: an operator is the record with exactly the operands' types (manual 10.2, step 2).
-use Rattle.std.specs.Prelude.{ℕ, List, [], ◌∷◌, true, false, codes, slice_get, Option, Some, None, Result, Ok, Err}
+-- The type of an expression and what it comes to, or its refusal: an operator is the record with exactly the operands' types (manual 10.2, step 2).
+use Rattle.std.specs.Prelude.{ℕ, ◌^◌, pos, List, [], ◌∷◌, Bool, true, false, ◌&&◌, ◌||◌, nat_lt, bytes_eq, codes, slice_get, if◌then◌else◌, Option, Some, None, Result, Ok, Err}
 use Rattle.std.specs.Option.{ok_or, option_and_then, option_map}
 use Rattle.xp_base.specs.declared.codes.Code.TheVariants as code
+use Rattle.xp_base.specs.declared.decimal.Dec.{Dec}
+use Rattle.xp_base.specs.declared.numbers.Span.{Span}
 use Rattle.xp_base.specs.declared.numbers.TypeNo.{TypeNo}
 use Rattle.xp_catalog.specs.Contents.{Contents}
 use Rattle.xp_catalog.specs.Lookups.{oper_at, type_named}
 use Rattle.xp_catalog.specs.declared.rows.FuncRow.{FuncRow}
-use Rattle.xp_parser.specs.Statement.{operator_name}
-use Rattle.xp_parser.specs.declared.syntax.Literal.{Literal}
-use Rattle.xp_parser.specs.declared.syntax.Literal.TheVariants as literal
-use Rattle.xp_parser.specs.declared.syntax.Operand.{Operand}
-use Rattle.xp_parser.specs.declared.syntax.Statement.{Statement}
-use Rattle.xp_parser.specs.declared.syntax.Statement.TheVariants.{Select, SelectBinary}
+use Rattle.xp_catalog.specs.declared.rows.Volatility.{Volatility}
+use Rattle.xp_catalog.specs.declared.rows.Volatility.TheVariants as volatility
+use Rattle.xp_grammar.specs.declared.ast.Ast.{Ast, fold-Ast}
+use Rattle.xp_grammar.specs.declared.ast.Ast.TheOpen.{Ast-F}
+use Rattle.xp_run.specs.Evaluation.{call_evaluation, constant_evaluation}
 use Rattle.xp_run.specs.Integers.{operation_at}
+use Rattle.xp_run.specs.declared.evaluation.Function.{Function}
 use Rattle.xp_run.specs.declared.value.Value.{Value}
 use Rattle.xp_run.specs.declared.value.Value.TheVariants.{Int, Truth}
 use Rattle.xp_run.specs.declared.resolve.Called.{Called}
-use Rattle.xp_run.specs.declared.resolve.Expression.TheVariants.{Constant, Call}
 use Rattle.xp_run.specs.declared.resolve.Refusal.{Refusal}
-use Rattle.xp_run.specs.declared.resolve.Resolved.{Resolved}
+use Rattle.xp_run.specs.declared.resolve.Typed.{Typed}
 
 abbrev pub and_then : {T U E : Type 0} → Result T E → (T → Result U E) → Result U E
 and_then (Ok x) f = f x
 and_then (Err e) f = Err e
 
-abbrev pub literal_value : Literal → Value
-literal_value (literal.Number n) = Int n
-literal_value literal.True = Truth true
-literal_value literal.False = Truth false
+-- ---- constants
 
-abbrev pub literal_type : Contents → Literal → Option TypeNo
-literal_type c (literal.Number n) = type_named c (codes "int4")
-literal_type c literal.True = type_named c (codes "bool")
-literal_type c literal.False = type_named c (codes "bool")
+-- a whole number that fits 32 bits
+abbrev pub int4_value : Dec → Bool → Option Value
+int4_value number whole = if whole && nat_lt number.coef (2 ^ 31) then Some (Int (pos number.coef)) else None
 
--- a type that the catalogue lacks is refused at the literal
-abbrev pub typed : Contents → Operand → Result TypeNo Refusal
-typed c operand = ok_or (literal_type c operand.literal) (record { code = code.UnknownType; at = operand.at })
+-- a type that the catalogue lacks is refused at the constant
+abbrev pub constant : Contents → List ℕ → Span → Value → Result Typed Refusal
+constant c name at value =
+    ok_or (option_map (λ t. record { ty = t; start = at.start; evaluation = constant_evaluation value }) (type_named c name)) (record { code = code.UnknownType; at = at.start })
 
-abbrev pub function_called : FuncRow → Option Called
-function_called f = option_and_then (λ body. option_map (λ operation. record { ty = f.result; operation = operation }) (operation_at body.0)) f.body
+-- ---- operators
 
--- the operator of that name with exactly these operands
+abbrev pub is_immutable : Volatility → Bool
+is_immutable volatility.Immutable = true
+is_immutable _ = false
+
+abbrev pub function_of : FuncRow → Function
+function_of f = record { operation = option_and_then operation_at f.body; immutable = is_immutable f.volatility }
+
+-- the function of the operator of that name with exactly these operands
 abbrev pub called : Contents → List ℕ → List TypeNo → Option Called
 called c name operands =
-    option_and_then (λ r. option_and_then (λ o. option_and_then function_called (slice_get c.funcs o.function.0)) (slice_get c.opers r.0)) (oper_at c name operands)
+    option_and_then (λ r. option_and_then (λ o. option_map (λ f. record { ty = f.result; function = function_of f }) (slice_get c.funcs o.function.0)) (slice_get c.opers r.0)) (oper_at c name operands)
 
--- every body takes two int4
-abbrev pub call_of : Option Called → Value → Value → Option Resolved
-call_of (Some k) (Int l) (Int r) = Some (record { ty = k.ty; expression = Call k.operation l r })
-call_of _ _ _ = None
+abbrev pub call_of : Called → Typed → Typed → Typed
+call_of k left right = record { ty = k.ty; start = left.start; evaluation = call_evaluation k.function left.evaluation right.evaluation }
 
 -- operands from left to right, then the operator
-abbrev pub resolved_by : Contents → Statement → Result Resolved Refusal
-resolved_by c (Select operand) = and_then (typed c operand) (λ t. Ok (record { ty = t; expression = Constant (literal_value operand.literal) }))
-resolved_by c (SelectBinary left operator at right) =
-    and_then (typed c left) (λ l. and_then (typed c right) (λ r.
-    ok_or (call_of (called c (operator_name operator) (l ∷ r ∷ [])) (literal_value left.literal) (literal_value right.literal)) (record { code = code.Undefined; at = at })))
+abbrev pub operated : Contents → List ℕ → Span → Result Typed Refusal → Result Typed Refusal → Result Typed Refusal
+operated c name at left right =
+    and_then left (λ l. and_then right (λ r. ok_or (option_map (λ k. call_of k l r) (called c name (l.ty ∷ r.ty ∷ []))) (record { code = code.Undefined; at = at.start })))
+
+-- parentheses begin where they stand
+abbrev pub in_group : Span → Result Typed Refusal → Result Typed Refusal
+in_group at inner = and_then inner (λ typed. Ok (record { ty = typed.ty; start = at.start; evaluation = typed.evaluation }))
+
+abbrev pub is_built : List ℕ → Bool
+is_built name = bytes_eq name (codes "<") || bytes_eq name (codes ">") || bytes_eq name (codes "=")
+
+-- ---- expressions. None is what isn't built.
+
+abbrev pub Resolution : Type 0
+Resolution = Option (Result Typed Refusal)
+
+abbrev pub operation : Contents → List ℕ → Span → Resolution → Resolution → Resolution
+operation c name at left right = option_and_then (λ l. option_map (λ r. operated c name at l r) right) left
+
+abbrev pub level : Contents → Ast-F Resolution (Unit {0}) → Resolution
+level c (Ast-F.Number at value whole) = option_map (constant c (codes "int4") at) (int4_value value whole)
+level c (Ast-F.Truth at value) = Some (constant c (codes "bool") at (Truth value))
+level c (Ast-F.Group at inner) = option_map (in_group at) inner
+level c (Ast-F.Product at name left right) = operation c name at left right
+level c (Ast-F.Sum at name left right) = operation c name at left right
+level c (Ast-F.Compare at name left right) = if is_built name then operation c name at left right else None
+level c _ = None
+
+abbrev pub resolved : Contents → Ast → Resolution
+resolved c = fold-Ast Resolution (Unit {0}) (level c) (λ arm. tt)

@@ -2,9 +2,9 @@
 use Rattle.std.specs.Prelude.{◌≡◌, ℕ, ◌-◌, ◌^◌, List, [], Bool, true, min, Option, Some, None, IfSome, IsOk, MatchOption, Result, Ok, Err}
 use Rattle.xp_base.specs.Growth.{grown, GrowsWithin}
 use Rattle.xp_base.specs.Outside.{Files}
-use Rattle.xp_parser.specs.Script.{statements}
 use Rattle.xp_run.specs.Blocks.{all_ok, report}
 use Rattle.xp_run.specs.Inputs.{Names, Refuses, inputs_in}
+use Rattle.xp_run.specs.Script.{answers}
 use Rattle.xp_run.specs.Status.{status_of}
 use Rattle.xp_run.specs.declared.ending.Exit.{Exit}
 use Rattle.xp_run.specs.declared.ending.Ending.{Ending}
@@ -23,7 +23,7 @@ output (Err fault) = []
 
 -- every block's last line says `ok`
 abbrev pub is_fine_run : Result Inputs Ending → Bool
-is_fine_run (Ok inputs) = all_ok inputs.catalog (statements inputs.script)
+is_fine_run (Ok inputs) = all_ok (answers inputs.catalog inputs.script)
 is_fine_run (Err fault) = true
 
 -- how many machine steps the statements take: none is run by machine steps yet

@@ -1,5 +1,5 @@
 -- The small catalogue: bool and int4, the function div over int4, and the operator / over it.
-use Rattle.std.specs.Prelude.{ℕ, List, [], ◌∷◌, ◌++◌, true, false, codes, Some}
+use Rattle.std.specs.Prelude.{[], ◌∷◌, true, false, codes, Some}
 use Rattle.xp_base.specs.declared.numbers.TypeNo.{TypeNo}
 use Rattle.xp_catalog.specs.Contents.{Contents, array_row, unknown_row}
 use Rattle.xp_catalog.specs.declared.rows.TypeKind.TheVariants as kind
@@ -18,6 +18,9 @@ int4 = record { 0 = 3 }
 abbrev pub small : Contents
 small = record {
   types = unknown_row ∷ bool_row ∷ array_row 1 bool_row ∷ int4_row ∷ array_row 3 int4_row ∷ [];
-  funcs = record { name = codes "div"; args = int4 ∷ int4 ∷ []; variadic = false; result = int4; volatility = Immutable; strict = true; body = Some (record { 0 = 3 }); line = 3 } ∷ [];
+  casts = [];
+  funcs = record { name = codes "div"; args = int4 ∷ int4 ∷ []; variadic = false; result = int4; volatility = Immutable; strict = true; body = Some (record { 0 = 31 }); line = 3 } ∷ [];
   opers = record { name = codes "/"; left = Some int4; right = int4; function = record { 0 = 0 }; line = 4 } ∷ [];
+  domains = [];
+  ranges = [];
 }

@@ -1,12 +1,13 @@
 //! Loads the texts of a run.
 ghost use Rattle.std.specs.Prelude.{◌≡◌, ◌≤◌, IfOk, length};
 ghost use Rattle.xp_base.specs.Growth.{Rose};
-ghost use Rattle.xp_run.specs.Inputs.{Reads, catalog_in, inputs_in, text_in};
+ghost use Rattle.xp_run.specs.Inputs.{Reads, catalog_in, first_check, inputs_in, text_in, unless_check};
 
 use crate::ending::Ending;
 use std::alloc::Global;
-use xp_base::{Byts, CATALOG_LIMIT, LoadFault, SCRIPT_LIMIT, Shelf};
-use xp_catalog::{CatFault, Catalog, load};
+use xp_base::{Byts, CATALOG_LIMIT, LoadFault, RowNo, SCRIPT_LIMIT, Shelf};
+use xp_catalog::{CatFault, Catalog, Why};
+use xp_loader::load;
 
 /// What a run works on.
 #[derive(Drop)]
@@ -29,6 +30,32 @@ fn load_text<F: Shelf>(alloc: Global, name: &str, limit: u64, shelf: &mut F) -> 
     }
 }
 
+/// The line of the first domain that has a check.
+#[tactic(auto, using(xp_base::proofs::Lists::drop_none))]
+fn first_check(catalog: &Catalog) -> Option<u32>
+    ensures { result ≡ first_check catalog.now.domains }
+{
+    for number in 0..catalog.counts().domains {
+        let domain = catalog.domain_row(RowNo(number));
+        if !domain.check.as_slice().is_empty() {
+            return Some(domain.line);
+        }
+    }
+    None
+}
+
+fn unless_check(catalog: Catalog) -> Result<Catalog, Ending>
+    ensures { result ≡ unless_check (first_check catalog.domains) catalog }
+{
+    match first_check(&catalog) {
+        Some(line) => Err(Ending::BadCatalog {
+            line,
+            why: Why::BadCheck,
+        }),
+        None => Ok(catalog),
+    }
+}
+
 fn load_catalog<F: Shelf>(alloc: Global, name: &str, shelf: &mut F) -> Result<Catalog, Ending>
     ensures answer { Reads (F.held shelf.old) (λ files. catalog_in files name.now) (Rose (F.faults shelf.old) (F.faults shelf.new)) result }
     ensures same { F.held shelf.new ≡ F.held shelf.old }
@@ -39,8 +66,12 @@ fn load_catalog<F: Shelf>(alloc: Global, name: &str, shelf: &mut F) -> Result<Ca
         Err(end) => return Err(end),
     };
     match load(alloc, text.as_slice()) {
-        Ok(catalog) => Ok(catalog),
+        Ok(catalog) => unless_check(catalog),
         Err(CatFault::Row { line, why }) => Err(Ending::BadCatalog { line, why }),
+        Err(CatFault::TooManyRows { line }) => Err(Ending::BadCatalog {
+            line,
+            why: Why::TooMany,
+        }),
         Err(CatFault::Memory) => Err(Ending::Memory),
     }
 }
@@ -53,6 +84,7 @@ pub fn load_inputs<F: Shelf>(
     shelf: &mut F,
 ) -> Result<Inputs, Ending>
     ensures answer { Reads (F.held shelf.old) (λ files. inputs_in files (record { catalog = catalog.now; script = script.now })) (Rose (F.faults shelf.old) (F.faults shelf.new)) result }
+    ensures short { IfOk result (λ inputs. length inputs.script ≤ SCRIPT_LIMIT) }
     ensures same { F.held shelf.new ≡ F.held shelf.old }
     ensures rises { F.faults shelf.old ≤ F.faults shelf.new }
 {

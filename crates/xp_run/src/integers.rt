@@ -1,9 +1,10 @@
 //! The bodies over two int4 (manual 9.2, 9.3).
 ghost use Rattle.std.specs.Prelude.{◌≡◌};
-ghost use Rattle.xp_run.specs.Integers.{number_of, operation_at, outcome_of};
+ghost use Rattle.xp_run.specs.Integers.{number_of, operation_at, operation_named, outcome_of};
 
 use crate::value::Value;
 use xp_base::{BodyNo, EvalError};
+use xp_bodies::row_at;
 use xp_int::{add_int4, div_int4, eq_int, gt_int, lt_int, mod_int4, mul_int4, sub_int4};
 
 /// What a body does with its two arguments.
@@ -19,20 +20,29 @@ pub enum Operation {
     Greater,
 }
 
-/// The operation of a body, by its place among the catalogue's first bodies.
-pub fn operation_of(body: BodyNo) -> Option<Operation>
-    ensures { result ≡ operation_at body.0 }
+fn operation_named(name: &str) -> Option<Operation>
+    ensures { result ≡ operation_named name.now }
 {
-    match body.0 {
-        0 => Some(Operation::Add),
-        1 => Some(Operation::Subtract),
-        2 => Some(Operation::Multiply),
-        3 => Some(Operation::Divide),
-        4 => Some(Operation::Modulo),
-        5 => Some(Operation::Equal),
-        6 => Some(Operation::Less),
-        7 => Some(Operation::Greater),
+    match name {
+        "add_int4_int4" => Some(Operation::Add),
+        "sub_int4_int4" => Some(Operation::Subtract),
+        "mul_int4_int4" => Some(Operation::Multiply),
+        "div_int4_int4" => Some(Operation::Divide),
+        "mod_int4_int4" => Some(Operation::Modulo),
+        "eq_int4_int4" => Some(Operation::Equal),
+        "lt_int4_int4" => Some(Operation::Less),
+        "gt_int4_int4" => Some(Operation::Greater),
         _ => None,
+    }
+}
+
+/// The operation of a body, if it is one that is built.
+pub fn operation_of(body: BodyNo) -> Option<Operation>
+    ensures { result ≡ operation_at body }
+{
+    match row_at(body) {
+        Some(row) => operation_named(row.name),
+        None => None,
     }
 }
 

@@ -4,12 +4,14 @@
 mod answer;
 mod blocks;
 mod ending;
+mod evaluation;
 mod inputs;
 mod integers;
 mod lines;
 mod program;
 mod report;
 mod resolve;
+mod script;
 mod value;
 mod words;
 mod worked;

@@ -1,18 +1,17 @@
 //! Writes the report on a script, line by line.
-ghost use Rattle.std.specs.Prelude.{◌≡◌, ◌+◌, ◌-◌, ◌^◌, ◌<◌, ◌≤◌, ◌&&◌, IfOk, cond, length, map};
+ghost use Rattle.std.specs.Prelude.{◌≡◌, ◌-◌, ◌^◌, ◌<◌, ◌≤◌, ◌&&◌, IfOk, length, map};
 ghost use Rattle.std.specs.List.{concat};
 ghost use Rattle.xp_base.specs.Outside.{Puts};
-ghost use Rattle.xp_parser.specs.Script.{statements};
-ghost use Rattle.xp_run.specs.Answer.{IsOfType};
-ghost use Rattle.xp_run.specs.Blocks.{all_ok, is_fine, lines_of, number_after, report, text_of};
+ghost use Rattle.xp_run.specs.Blocks.{all_ok, block_of, is_fine, number_after, report, text_of};
+ghost use Rattle.xp_run.specs.Script.{answers};
 ghost use Rattle.xp_run.specs.Writing.{Writes};
 
-use crate::answer::{Answer, answer_statement, is_ok};
-use crate::blocks::block_lines;
+use crate::answer::Answer;
+use crate::blocks::{block_lines, is_ok};
+use crate::script::{Turn, take_turn};
 use std::alloc::Global;
 use xp_base::{Failed, Sink};
 use xp_catalog::Catalog;
-use xp_parser::{behind, leading_blanks, piece_len, read_statement};
 
 /// Why the writing stopped.
 #[derive(Clone, Copy, Debug, PartialEq, Eq)]
@@ -44,11 +43,10 @@ fn write_block<K: Sink>(
     alloc: Global,
     catalog: &Catalog,
     k: u64,
-    answer: Answer,
+    answer: &Answer,
     out: &mut K,
 ) -> Result<(), Stop>
-    requires { IsOfType catalog.now answer }
-    ensures wrote { Writes (K.contents out.old) (K.contents out.new) (concat (lines_of catalog.now k answer)) (K.faults out.old) (K.faults out.new) result }
+    ensures wrote { Writes (K.contents out.old) (K.contents out.new) (block_of catalog.now k answer.now) (K.faults out.old) (K.faults out.new) result }
     ensures rises { K.faults out.old ≤ K.faults out.new }
 {
     let Ok(lines) = block_lines(alloc, catalog, k, answer) else {
@@ -60,31 +58,28 @@ fn write_block<K: Sink>(
     }
 }
 
-/// Writes the block of a piece that starts at the byte `at`, if it is a statement.
-fn write_piece<K: Sink>(
+/// Writes the block of the next statement, if there is one.
+fn write_some<K: Sink>(
     alloc: Global,
     catalog: &Catalog,
-    at: u64,
-    piece: &[u8],
+    answer: Option<Answer>,
     tally: Tally,
     out: &mut K,
 ) -> Result<Tally, Stop>
-    requires few { tally.next < 2 ^ 64 - 1 }
-    requires place { at + length piece.now < 2 ^ 64 }
-    ensures wrote { Writes (K.contents out.old) (K.contents out.new) (text_of catalog.now tally.next (record { start = at; bytes = piece.now })) (K.faults out.old) (K.faults out.new) result }
-    ensures next { IfOk result (λ after. after.next ≡ number_after tally.next (record { start = at; bytes = piece.now })) }
-    ensures fine { IfOk result (λ after. after.all_ok ≡ (tally.all_ok && is_fine catalog.now (record { start = at; bytes = piece.now }))) }
+    requires { tally.next < 2 ^ 64 - 1 }
+    ensures wrote { Writes (K.contents out.old) (K.contents out.new) (text_of catalog.now tally.next answer) (K.faults out.old) (K.faults out.new) result }
+    ensures next { IfOk result (λ after. after.next ≡ number_after tally.next answer) }
+    ensures fine { IfOk result (λ after. after.all_ok ≡ (tally.all_ok && is_fine answer)) }
     ensures rises { K.faults out.old ≤ K.faults out.new }
 {
-    let blanks = leading_blanks(piece);
-    if blanks == piece.len() {
+    let Some(answer) = answer else {
         return Ok(tally);
-    }
-    let answer = answer_statement(catalog, at + blanks as u64, read_statement(piece, at));
-    write_block(alloc, catalog, tally.next, answer, out)?;
+    };
+    let all_ok = tally.all_ok && is_ok(&answer);
+    write_block(alloc, catalog, tally.next, &answer, out)?;
     Ok(Tally {
         next: tally.next + 1,
-        all_ok: tally.all_ok && is_ok(answer),
+        all_ok,
     })
 }
 
@@ -95,21 +90,22 @@ pub fn write_report<K: Sink>(
     script: &[u8],
     out: &mut K,
 ) -> Result<bool, Stop>
+    requires { length script.now < 2 ^ 32 }
     ensures wrote { Writes (K.contents out.old) (K.contents out.new) (report catalog.now script.now) (K.faults out.old) (K.faults out.new) result }
-    ensures fine { IfOk result (λ fine. fine ≡ all_ok catalog.now (statements script.now)) }
+    ensures fine { IfOk result (λ fine. fine ≡ all_ok (answers catalog.now script.now)) }
     ensures rises { K.faults out.old ≤ K.faults out.new }
 {
-    let mut rest = script;
     let mut at: u64 = 0;
     let mut tally = Tally {
         next: 1,
         all_ok: true,
     };
-    while !rest.is_empty() {
-        let n = piece_len(rest);
-        tally = write_piece(alloc, catalog, at, &rest[..n], tally, out)?;
-        at += n as u64 + 1;
-        rest = behind(rest, n);
+    while at < script.len() as u64 {
+        let Ok(Turn { answer, next }) = take_turn(alloc, catalog, script, at) else {
+            return Err(Stop::Memory);
+        };
+        tally = write_some(alloc, catalog, answer, tally, out)?;
+        at = next;
     }
     Ok(tally.all_ok)
 }

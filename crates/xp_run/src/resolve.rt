@@ -1,12 +1,13 @@
-//! Resolves a statement: its type and what it computes, or why it is refused.
-ghost use Rattle.std.specs.Prelude.{◌≡◌, ◌<◌, ◌∷◌, [], IfOk, IfSome, length};
-ghost use Rattle.xp_run.specs.Resolve.{call_of, called, function_called, literal_type, literal_value, resolved_by, typed};
+//! Resolves expressions: the type of each and what it comes to, or why it is refused.
+ghost use Rattle.std.specs.Prelude.{◌≡◌, ◌∷◌, [], codes};
+ghost use Rattle.xp_run.specs.Resolve as spec;
 
-use crate::integers::{Operation, operation_of};
+use crate::evaluation::{Evaluation, Function, call_evaluation, constant_evaluation};
+use crate::integers::operation_of;
 use crate::value::Value;
-use xp_base::{Code, TypeNo};
-use xp_catalog::{Catalog, FuncRow};
-use xp_parser::{Literal, Operand, Statement};
+use xp_base::{Code, Dec, Span, TypeNo};
+use xp_catalog::{Catalog, FuncRow, Volatility};
+use xp_grammar::Ast;
 
 /// Why a statement is refused, and the byte of the script where.
 #[derive(Clone, Copy, Debug, PartialEq, Eq)]
@@ -15,130 +16,161 @@ pub struct Refusal {
     pub at: u64,
 }
 
-/// What an item computes.
+/// An expression's type, the byte at which it begins, and what it comes to.
 #[derive(Clone, Copy, Debug, PartialEq, Eq)]
-pub enum Expression {
-    Constant(Value),
-    Call {
-        operation: Operation,
-        left: i32,
-        right: i32,
-    },
-}
-
-/// An item with its type.
-#[derive(Clone, Copy, Debug, PartialEq, Eq)]
-pub struct Resolved {
+pub struct Typed {
     pub ty: TypeNo,
-    pub expression: Expression,
+    pub start: u32,
+    pub evaluation: Evaluation,
 }
 
-/// A chosen operator: the type of its function's result, and what the function does.
+/// A chosen operator: the type of its function's result, and the function.
 #[derive(Clone, Copy, Debug, PartialEq, Eq)]
 pub struct Called {
     pub ty: TypeNo,
-    pub operation: Operation,
+    pub function: Function,
 }
 
-fn value_of(literal: Literal) -> Value
-    ensures { result ≡ literal_value literal }
+/// The value of a whole number that fits 32 bits.
+fn int4_value(number: Dec, whole: bool) -> Option<Value>
+    ensures { result ≡ spec.int4_value number whole }
 {
-    match literal {
-        Literal::Number(number) => Value::Int(number),
-        Literal::True => Value::Truth(true),
-        Literal::False => Value::Truth(false),
+    if whole && number.coef < 2_147_483_648 {
+        Some(Value::Int(number.coef as i32))
+    } else {
+        None
     }
 }
 
-fn type_of(catalog: &Catalog, literal: Literal) -> Option<TypeNo>
-    ensures value { result ≡ literal_type catalog.now literal }
-    ensures known { IfSome result (λ t. t.0 < length catalog.now.types) }
+/// A constant of the type of that name.
+fn constant(catalog: &Catalog, name: &str, at: Span, value: Value) -> Result<Typed, Refusal>
+    ensures { result ≡ spec.constant catalog.now name.now at value }
 {
-    match literal {
-        Literal::Number(_) => catalog.type_named("int4"),
-        Literal::True | Literal::False => catalog.type_named("bool"),
-    }
-}
-
-fn type_operand(catalog: &Catalog, operand: Operand) -> Result<TypeNo, Refusal>
-    ensures value { result ≡ typed catalog.now operand }
-    ensures known { IfOk result (λ t. t.0 < length catalog.now.types) }
-{
-    match type_of(catalog, operand.literal) {
-        Some(ty) => Ok(ty),
+    match catalog.type_named(name) {
+        Some(ty) => Ok(Typed {
+            ty,
+            start: at.start,
+            evaluation: constant_evaluation(value),
+        }),
         None => Err(Refusal {
             code: Code::UnknownType,
-            at: operand.at,
+            at: u64::from(at.start),
         }),
     }
 }
 
-fn call_function(function: &FuncRow) -> Option<Called>
-    ensures value { result ≡ function_called function.now }
-    ensures ty { IfSome result (λ called. called.ty ≡ function.now.result) }
+fn function_of(row: &FuncRow) -> Function
+    ensures { result ≡ spec.function_of row.now }
 {
-    let operation = operation_of(function.body?)?;
-    Some(Called {
-        ty: function.result,
+    let operation = match row.body {
+        Some(body) => operation_of(body),
+        None => None,
+    };
+    Function {
         operation,
-    })
+        immutable: row.volatility == Volatility::Immutable,
+    }
 }
 
 /// The operator of that name whose operands are of exactly these types (manual 10.2, step 2).
 fn call_operator(catalog: &Catalog, name: &str, operands: &[TypeNo]) -> Option<Called>
-    ensures value { result ≡ called catalog.now name.now operands.now }
-    ensures known { IfSome result (λ called. called.ty.0 < length catalog.now.types) }
+    ensures { result ≡ spec.called catalog.now name.now operands.now }
 {
     let operator = catalog.oper_row(catalog.oper_at(name, operands)?);
-    call_function(catalog.func_row(operator.function))
+    let function = catalog.func_row(operator.function);
+    Some(Called {
+        ty: function.result,
+        function: function_of(function),
+    })
 }
 
-/// The call over two values, which have to be int4.
-fn call(called: Option<Called>, left: Value, right: Value) -> Option<Resolved>
-    ensures value { result ≡ call_of called left right }
-    ensures ty { IfSome result (λ resolved. IfSome called (λ c. resolved.ty ≡ c.ty)) }
+fn call(called: Called, left: Typed, right: Typed) -> Typed
+    ensures { result ≡ spec.call_of called left right }
 {
-    match (called, left, right) {
-        (Some(called), Value::Int(left), Value::Int(right)) => Some(Resolved {
-            ty: called.ty,
-            expression: Expression::Call {
-                operation: called.operation,
-                left,
-                right,
-            },
-        }),
-        _ => None,
+    Typed {
+        ty: called.ty,
+        start: left.start,
+        evaluation: call_evaluation(called.function, left.evaluation, right.evaluation),
     }
 }
 
-/// Resolves a statement. The type that it gives is one of the catalogue's.
-pub fn resolve(catalog: &Catalog, statement: Statement) -> Result<Resolved, Refusal>
-    ensures value { result ≡ resolved_by catalog.now statement }
-    ensures known { IfOk result (λ resolved. resolved.ty.0 < length catalog.now.types) }
+/// The operator at `at` between two operands.
+fn operate(
+    catalog: &Catalog,
+    name: &str,
+    at: Span,
+    left: Result<Typed, Refusal>,
+    right: Result<Typed, Refusal>,
+) -> Result<Typed, Refusal>
+    ensures { result ≡ spec.operated catalog.now name.now at left right }
 {
-    match statement {
-        Statement::Select { operand } => {
-            let ty = type_operand(catalog, operand)?;
-            Ok(Resolved {
-                ty,
-                expression: Expression::Constant(value_of(operand.literal)),
-            })
+    let left = left?;
+    let right = right?;
+    match call_operator(catalog, name, &[left.ty, right.ty]) {
+        Some(called) => Ok(call(called, left, right)),
+        None => Err(Refusal {
+            code: Code::Undefined,
+            at: u64::from(at.start),
+        }),
+    }
+}
+
+/// An expression in parentheses, which begins where they stand.
+fn in_group(at: Span, inner: Result<Typed, Refusal>) -> Result<Typed, Refusal>
+    ensures { result ≡ spec.in_group at inner }
+{
+    let typed = inner?;
+    Ok(Typed {
+        ty: typed.ty,
+        start: at.start,
+        evaluation: typed.evaluation,
+    })
+}
+
+/// Whether comparisons by this operator are built.
+fn is_built(name: &str) -> bool
+    ensures { result ≡ spec.is_built name.now }
+{
+    name == "<" || name == ">" || name == "="
+}
+
+/// Resolves an expression. There is none where a part of it isn't built.
+pub fn resolve(catalog: &Catalog, ast: &Ast) -> Option<Result<Typed, Refusal>>
+    ensures { result ≡ spec.resolved catalog.now ast.now }
+{
+    match ast {
+        Ast::Number { at, value, whole } => {
+            let value = int4_value(*value, *whole)?;
+            Some(constant(catalog, "int4", *at, value))
         }
-        Statement::SelectBinary {
-            left,
-            operator,
+        Ast::Truth { at, value } => Some(constant(catalog, "bool", *at, Value::Truth(*value))),
+        Ast::Group { at, inner } => Some(in_group(*at, resolve(catalog, inner.get())?)),
+        Ast::Product {
             at,
+            name,
+            left,
+            right,
+        }
+        | Ast::Sum {
+            at,
+            name,
+            left,
             right,
         } => {
-            let operands = [type_operand(catalog, left)?, type_operand(catalog, right)?];
-            let called = call_operator(catalog, operator.name(), &operands);
-            match call(called, value_of(left.literal), value_of(right.literal)) {
-                Some(resolved) => Ok(resolved),
-                None => Err(Refusal {
-                    code: Code::Undefined,
-                    at,
-                }),
-            }
+            let left = resolve(catalog, left.get())?;
+            let right = resolve(catalog, right.get())?;
+            Some(operate(catalog, name.as_str(), *at, left, right))
         }
+        Ast::Compare {
+            at,
+            name,
+            left,
+            right,
+        } if is_built(name.as_str()) => {
+            let left = resolve(catalog, left.get())?;
+            let right = resolve(catalog, right.get())?;
+            Some(operate(catalog, name.as_str(), *at, left, right))
+        }
+        _ => None,
     }
 }

@@ -5,6 +5,7 @@ use std::process::Abort;
 use std::test::Fail;
 use xp_base::{Byts, MemoryShelf, MemorySink, QuietShelf, QuietSink, StoredFile, Txt};
 use xp_catalog::Why;
+use xp_shipped::shipped;
 
 const SMALL: &str =
     "type,bool,B,t\ntype,int4,N,f\nfunction,div,int4 int4,f,int4,immutable,t,div_int4_int4\noperator,/,int4,int4,div\n";
@@ -152,6 +153,250 @@ fn the_eight_operators_compute(rt: HostRuntime) -> Result<(), Fail> {
 }
 
 #[test]
+fn expressions_of_any_shape_compute(rt: HostRuntime) -> Result<(), Fail> {
+    let rows = [
+        (
+            "SELECT 1, true, 2 < 3",
+            "-- 1 types int4,bool,bool\n1,t,t\n-- 1 ok 1\n",
+            0,
+        ),
+        (
+            "SELECT 1 + 2 * 3, (1 + 2) * 3, 7 - 2 - 1",
+            "-- 1 types int4,int4,int4\n7,9,4\n-- 1 ok 1\n",
+            0,
+        ),
+        ("SELECT ((7))", "-- 1 types int4\n7\n-- 1 ok 1\n", 0),
+        ("SELECT 1 + 1 = 2", "-- 1 types bool\nt\n-- 1 ok 1\n", 0),
+        (
+            "SELECT (1 < 2) + 1",
+            "-- 1 refused 42883 undefined byte 15\n",
+            1,
+        ),
+        (
+            "SELECT (1 = 1) = true",
+            "-- 1 refused 42883 undefined byte 15\n",
+            1,
+        ),
+        (
+            "SELECT 1, 7 / 0, true + 1",
+            "-- 1 refused 42883 undefined byte 22\n",
+            1,
+        ),
+        (
+            "SELECT 1, 7 / (3 - 3), 2147483647 + 1",
+            "-- 1 types int4,int4,int4\n-- 1 error 22012 division_by_zero early\n",
+            1,
+        ),
+        (
+            "SELECT (7 / 0) + (2147483647 + 1)",
+            "-- 1 types int4\n-- 1 error 22012 division_by_zero early\n",
+            1,
+        ),
+        (
+            "SELECT (2147483647 + 1) / (1 / 0)",
+            "-- 1 types int4\n-- 1 error 22003 out_of_range early\n",
+            1,
+        ),
+        ("SELECT 1 = 2 = 3", "-- 1 refused 42601 syntax byte 13\n", 1),
+    ];
+    for (script, output, status) in rows {
+        prints(&rt, rt.alloc(), EIGHT, script, output, status)?;
+    }
+    Ok(())
+}
+
+#[test]
+fn statements_end_at_semicolons_alone(rt: HostRuntime) -> Result<(), Fail> {
+    let rows = [
+        (
+            "SELECT 1; SELECT 2 = 2 = 2; SELECT 'ab",
+            "-- 1 types int4\n1\n-- 1 ok 1\n-- 2 refused 42601 syntax byte 23\n-- 3 refused 42601 unclosed byte 35\n",
+            1,
+        ),
+        (
+            "-- one; two\nSELECT /* ; /* ; */ */ 1 ; ; -- end",
+            "-- 1 types int4\n1\n-- 1 ok 1\n",
+            0,
+        ),
+        (
+            "SELECT 1; $ SELECT 2",
+            "-- 1 types int4\n1\n-- 1 ok 1\n-- 2 refused 42601 bad_byte byte 10\n",
+            1,
+        ),
+        (";; /* open", "-- 1 refused 42601 unclosed byte 3\n", 1),
+        (
+            "SELECT 1 +; SELECT 2",
+            "-- 1 refused 42601 syntax byte 10\n-- 2 types int4\n2\n-- 2 ok 1\n",
+            1,
+        ),
+        ("SELECT 1 +", "-- 1 refused 42601 syntax byte 10\n", 1),
+        ("SELECT 1 1$", "-- 1 refused 42601 bad_byte byte 10\n", 1),
+    ];
+    for (script, output, status) in rows {
+        prints(&rt, rt.alloc(), SMALL, script, output, status)?;
+    }
+    let alloc = rt.alloc();
+    let mut deep = String::from_str(alloc, "SELECT ")?;
+    for _ in 0..201 {
+        deep.push_str("(")?;
+    }
+    let refused = "-- 1 refused 54001 too_deep byte 207\n";
+    prints(&rt, alloc, SMALL, deep.as_str(), refused, 1)?;
+    let mut long = String::from_str(alloc, "SELECT 1")?;
+    for _ in 0..9_999 {
+        long.push_str(",1")?;
+    }
+    long.push_str(",")?;
+    let refused = "-- 1 refused 54001 too_many_tokens byte 20006\n";
+    prints(&rt, alloc, SMALL, long.as_str(), refused, 1)
+}
+
+#[test]
+fn other_statements_and_expressions_are_not_built(rt: HostRuntime) -> Result<(), Fail> {
+    let alloc = rt.alloc();
+    let rows = [
+        "SELECT 'a'",
+        "SELECT NULL",
+        "SELECT 1.0",
+        "SELECT 2147483648",
+        "SELECT 1 AS one",
+        "SELECT 1, 2 AS two, true / 1",
+        "SELECT -1",
+        "SELECT 1 <= 2",
+        "SELECT 2 ^ 3",
+        "SELECT 1 | 2",
+        "SELECT x",
+        "SELECT f(1)",
+        "SELECT 1::int4",
+        "SELECT NOT true",
+        "SELECT true AND true",
+        "SELECT 1 IS NULL",
+        "SELECT 1 IN (1)",
+        "SELECT CASE WHEN true THEN 1 END",
+        "SELECT true / 1, x",
+        "SELECT 1 UNION ALL SELECT 2",
+        "VALUES (1)",
+        "STORE int4 FROM 1",
+        "DESCRIBE 1",
+        "EXPLAIN 1",
+        "EXPLAIN ANALYZE 1",
+    ];
+    for statement in rows {
+        let script = format!(in alloc; " {statement}")?;
+        let refused = "-- 1 refused 0A000 not_built byte 1\n";
+        prints(&rt, alloc, SMALL, script.as_str(), refused, 1)?;
+    }
+    prints(
+        &rt,
+        alloc,
+        SMALL,
+        "SELECT 2147483647",
+        "-- 1 types int4\n2147483647\n-- 1 ok 1\n",
+        0,
+    )
+}
+
+const LOOSE: &str =
+    "type,bool,B,t\ntype,int4,N,f\nfunction,div,int4 int4,f,int4,stable,t,div_int4_int4\nfunction,add,int4 int4,f,int4,immutable,t,add_int4_int4\nfunction,times,int4 int4,f,int4,immutable,t,none\nfunction,same,bool bool,f,bool,immutable,t,eq_bool_bool\noperator,/,int4,int4,div\noperator,+,int4,int4,add\noperator,*,int4,int4,times\noperator,=,bool,bool,same\n";
+
+#[test]
+fn calls_without_body_are_refused_behind_analysis(rt: HostRuntime) -> Result<(), Fail> {
+    let rows = [
+        ("SELECT 2 * 3", "-- 1 refused 0A000 no_body byte 7\n"),
+        (
+            "SELECT 1, (2 * 3) + 1",
+            "-- 1 refused 0A000 no_body byte 10\n",
+        ),
+        (
+            "SELECT 1 / 0, 2 * 3",
+            "-- 1 refused 0A000 no_body byte 14\n",
+        ),
+        ("SELECT true = false", "-- 1 refused 0A000 no_body byte 7\n"),
+        (
+            "SELECT 2 * 3, true / 1",
+            "-- 1 refused 42883 undefined byte 19\n",
+        ),
+    ];
+    for (script, output) in rows {
+        prints(&rt, rt.alloc(), LOOSE, script, output, 1)?;
+    }
+    Ok(())
+}
+
+#[test]
+fn only_constant_parts_raise_early(rt: HostRuntime) -> Result<(), Fail> {
+    let early = "-- 1 types int4\n-- 1 error 22003 out_of_range early\n";
+    let rows = [
+        ("SELECT 7 / 2", "-- 1 types int4\n3\n-- 1 ok 1\n", 0),
+        (
+            "SELECT 1 / 0",
+            "-- 1 types int4\n-- 1 error 22012 division_by_zero row 1\n",
+            1,
+        ),
+        (
+            "SELECT 1, 1 / 0 + 1",
+            "-- 1 types int4,int4\n-- 1 error 22012 division_by_zero row 1\n",
+            1,
+        ),
+        ("SELECT (2147483647 + 1) / 1", early, 1),
+        ("SELECT 1 / 0 + (2147483647 + 1)", early, 1),
+        (
+            "SELECT 1 / 0, 2147483647 + 1",
+            "-- 1 types int4,int4\n-- 1 error 22003 out_of_range early\n",
+            1,
+        ),
+    ];
+    for (script, output, status) in rows {
+        prints(&rt, rt.alloc(), LOOSE, script, output, status)?;
+    }
+    Ok(())
+}
+
+#[test]
+fn the_shipped_catalogue_computes(rt: HostRuntime) -> Result<(), Fail> {
+    let alloc = rt.alloc();
+    let text = shipped(alloc)?;
+    let script = "SELECT 7 / 2, 2 = 2, 7 % 4 - 1; SELECT true = true; SELECT 1 + true";
+    let output =
+        "-- 1 types int4,bool,int4\n3,t,2\n-- 1 ok 1\n-- 2 refused 0A000 no_body byte 39\n-- 3 refused 42883 undefined byte 61\n";
+    let seen = ran(
+        alloc,
+        &["run", "c", "s"],
+        (text.as_slice(), script.as_bytes()),
+        0,
+        0,
+    )?;
+    assert_eq!(rt; seen.exit, done(1));
+    assert_eq!(rt; seen.written.as_slice(), output.as_bytes());
+    Ok(())
+}
+
+#[test]
+fn the_first_check_of_a_domain_is_refused(rt: HostRuntime) -> Result<(), Fail> {
+    let alloc = rt.alloc();
+    let rows = [
+        (
+            "domain,d,int4,f,\ndomain,posint,int4,t,VALUE > 0\ndomain,e,int4,f,true\n",
+            Exit {
+                status: 2,
+                end: Ending::BadCatalog {
+                    line: 6,
+                    why: Why::BadCheck,
+                },
+            },
+        ),
+        ("domain,d,int4,f,\ndomain,e,int4,t,\n", done(0)),
+    ];
+    for (domains, exit) in rows {
+        let catalog = format!(in alloc; "{SMALL}{domains}")?;
+        let texts = (catalog.as_bytes(), "SELECT 1".as_bytes());
+        let seen = ran(alloc, &["run", "c", "s"], texts, 0, 0)?;
+        assert_eq!(rt; seen.exit, exit);
+    }
+    Ok(())
+}
+
+#[test]
 fn the_first_fault_names_the_ending(rt: HostRuntime) -> Result<(), Fail> {
     let alloc = rt.alloc();
     let repeated = format!(in alloc;
@@ -159,7 +404,7 @@ fn the_first_fault_names_the_ending(rt: HostRuntime) -> Result<(), Fail> {
     )?;
     let bad = Ending::BadCatalog {
         line: 5,
-        why: Why::BadKind,
+        why: Why::Duplicate,
     };
     let script = "SELECT 7 / 2";
     let named = ["run", "c", "s"];

@@ -1,5 +1,7 @@
-use Rattle.xp_catalog.proofs.KnownRows.{IsKnown-oper}
+use Rattle.std.proofs.Common.{refl}
+use Rattle.xp_catalog.specs.declared.record.Record.TheVariants as row
+use Rattle.xp_catalog.proofs.KnownRows.{IsWellFormed-after}
 use Rattle.xp_catalog.proofs.catalog.Catalog.add_oper.Goals as goal
 
 pub invariant_of-result : goal.invariant_of-result
-invariant_of-result c = IsKnown-oper _ _ c.self.view_is _ c.args.row c.self.invariant c.requires.known c.requires.room c.in_ok-opers.ensures
+invariant_of-result c = IsWellFormed-after _ c.args.self _ (row.Operator c.args.row) c.self.view_is c.requires.room c.requires.keeps (rw c.in_ok-pushed.ensures refl)

@@ -1,0 +1,4 @@
+pub mod Loading
+pub mod Reading
+pub mod Records
+pub mod Refusing

@@ -1,0 +1,286 @@
+//! The rules that look at what a record adds, against the rows of the records before it.
+ghost use Rattle.std.specs.Prelude.{◌≡◌, codes, is_some, option_map, slice_get, true};
+ghost use Rattle.std.specs.List.{list_any};
+ghost use Rattle.xp_catalog.specs.Lookups.{oper_at, operands};
+ghost use Rattle.xp_catalog.specs.Rules.{casts_by, first_family, has_function, has_good_args, has_good_base, has_good_last, has_known_types, has_member, is_castable, is_called, is_domain_kind, is_new, is_pseudo_kind, kind_of, is_range_over, may_be_binary, may_be_variadic, name_of, second_family, takes_exactly, variadic_names};
+ghost use Rattle.xp_catalog.specs.Spelling.{is_among};
+ghost use Rattle.xp_loader.specs.Refusing.{fits_body};
+
+use crate::types::{is_opaque, kind_of, name_of};
+use xp_base::{ARGUMENT_LIMIT, RowNo, TypeNo};
+use xp_bodies::fits;
+use xp_catalog::names::{is_plain, is_pseudo, is_range, is_text_type};
+use xp_catalog::{CastMethod, CastRow, Catalog, FuncRow, OperRow, Record, TypeKind};
+
+fn is_old_operator(c: &Catalog, oper: &OperRow) -> bool
+    ensures { result ≡ is_some (oper_at c.now oper.now.name (operands oper.now.left oper.now.right)) }
+{
+    let name = oper.name.as_str();
+    match oper.left {
+        Some(left) => c.oper_at(name, &[left, oper.right]).is_some(),
+        None => c.oper_at(name, &[oper.right]).is_some(),
+    }
+}
+
+/// Whether no earlier record gave what this one gives.
+pub fn is_new(c: &Catalog, r: &Record) -> bool
+    ensures { result ≡ is_new c.now r.now }
+{
+    match r {
+        Record::Plain { name, .. } | Record::Range { name, .. } | Record::Domain { name, .. } => {
+            !c.type_named(name.as_str()).is_some()
+        }
+        Record::Cast(cast) => !c.cast_between(cast.from, cast.to).is_some(),
+        Record::Function(func) => !c
+            .func_at(func.name.as_str(), func.args.as_slice())
+            .is_some(),
+        Record::Operator(oper) => !is_old_operator(c, oper),
+    }
+}
+
+fn is_range_over(name: &[u8], subtype: &[u8]) -> bool
+    ensures { result ≡ is_range_over name.now subtype.now }
+{
+    if name == b"int4range".as_slice() {
+        subtype == b"int4".as_slice()
+    } else if name == b"int8range".as_slice() {
+        subtype == b"int8".as_slice()
+    } else if name == b"daterange".as_slice() {
+        subtype == b"date".as_slice()
+    } else {
+        subtype == b"int4".as_slice()
+            || subtype == b"int8".as_slice()
+            || subtype == b"date".as_slice()
+    }
+}
+
+fn is_domain(c: &Catalog, t: TypeNo) -> bool
+    ensures { result ≡ is_domain_kind (kind_of c.now t) }
+{
+    matches!(kind_of(c, t), TypeKind::Domain { .. })
+}
+
+fn is_pseudo_type(c: &Catalog, t: TypeNo) -> bool
+    ensures { result ≡ is_pseudo_kind (kind_of c.now t) }
+{
+    matches!(kind_of(c, t), TypeKind::Pseudo)
+}
+
+/// Whether a type is one over which a record's kind may define one, and the name one which it may give.
+pub fn has_good_base(c: &Catalog, r: &Record) -> bool
+    ensures { result ≡ has_good_base c.now r.now }
+{
+    match r {
+        Record::Plain { name, .. } => !is_range(name.as_str().as_bytes()),
+        Record::Range { name, subtype, .. } => {
+            let name = name.as_str().as_bytes();
+            !is_plain(name) && !is_pseudo(name) && is_range_over(name, name_of(c, *subtype))
+        }
+        Record::Domain { name, base, .. } => {
+            let name = name.as_str().as_bytes();
+            !is_domain(c, *base)
+                && !is_pseudo_type(c, *base)
+                && !is_plain(name)
+                && !is_pseudo(name)
+                && !is_range(name)
+        }
+        Record::Cast(_) | Record::Function(_) | Record::Operator(_) => true,
+    }
+}
+
+fn is_called_any(c: &Catalog, t: TypeNo) -> bool
+    ensures { result ≡ is_called c.now t (codes "any") }
+{
+    name_of(c, t) == b"any".as_slice()
+}
+
+fn may_be_variadic(c: &Catalog, t: TypeNo) -> bool
+    ensures { result ≡ may_be_variadic c.now t }
+{
+    matches!(kind_of(c, t), TypeKind::Array { .. }) || has_variadic_name(name_of(c, t))
+}
+
+fn has_variadic_name(name: &[u8]) -> bool
+    ensures { result ≡ is_among variadic_names name.now }
+{
+    name == b"any".as_slice()
+        || name == b"anyarray".as_slice()
+        || name == b"anycompatiblearray".as_slice()
+}
+
+fn has_good_last(c: &Catalog, variadic: bool, args: &[TypeNo]) -> bool
+    ensures { result ≡ has_good_last c.now variadic args.now }
+{
+    if !variadic {
+        return true;
+    }
+    match args.last() {
+        Some(last) => may_be_variadic(c, *last),
+        None => false,
+    }
+}
+
+fn is_in_first_family(name: &[u8]) -> bool
+    ensures { result ≡ is_among first_family name.now }
+{
+    name == b"anyelement".as_slice()
+        || name == b"anyarray".as_slice()
+        || name == b"anynonarray".as_slice()
+        || name == b"anyrange".as_slice()
+}
+
+fn has_first_argument(c: &Catalog, args: &[TypeNo]) -> bool
+    ensures { result ≡ list_any (λ arg. is_among first_family (name_of c.now arg)) args.now }
+{
+    args.iter().any(|arg| is_in_first_family(name_of(c, *arg)))
+}
+
+fn has_first_member(c: &Catalog, args: &[TypeNo], gives: TypeNo) -> bool
+    ensures { result ≡ has_member c.now first_family args.now gives }
+{
+    !is_in_first_family(name_of(c, gives)) || has_first_argument(c, args)
+}
+
+fn is_in_second_family(name: &[u8]) -> bool
+    ensures { result ≡ is_among second_family name.now }
+{
+    name == b"anycompatible".as_slice()
+        || name == b"anycompatiblearray".as_slice()
+        || name == b"anycompatiblenonarray".as_slice()
+        || name == b"anycompatiblerange".as_slice()
+}
+
+fn has_second_argument(c: &Catalog, args: &[TypeNo]) -> bool
+    ensures { result ≡ list_any (λ arg. is_among second_family (name_of c.now arg)) args.now }
+{
+    args.iter().any(|arg| is_in_second_family(name_of(c, *arg)))
+}
+
+fn has_second_member(c: &Catalog, args: &[TypeNo], gives: TypeNo) -> bool
+    ensures { result ≡ has_member c.now second_family args.now gives }
+{
+    !is_in_second_family(name_of(c, gives)) || has_second_argument(c, args)
+}
+
+fn has_good_signature(c: &Catalog, func: &FuncRow) -> bool
+    ensures { result ≡ has_good_args c.now (Record.Function func.now) }
+{
+    func.args.len() <= ARGUMENT_LIMIT as usize
+        && has_good_last(c, func.variadic, func.args.as_slice())
+        && !is_called_any(c, func.result)
+        && has_first_member(c, func.args.as_slice(), func.result)
+        && has_second_member(c, func.args.as_slice(), func.result)
+}
+
+fn has_good_operands(c: &Catalog, oper: &OperRow) -> bool
+    ensures { result ≡ has_good_args c.now (Record.Operator oper.now) }
+{
+    match oper.left {
+        Some(left) => !is_called_any(c, left) && !is_called_any(c, oper.right),
+        None => !is_called_any(c, oper.right),
+    }
+}
+
+fn may_be_binary(c: &Catalog, cast: &CastRow) -> bool
+    ensures { result ≡ may_be_binary c.now cast.now }
+{
+    is_opaque(c, cast.from)
+        || is_opaque(c, cast.to)
+        || (is_text_type(name_of(c, cast.from)) && is_text_type(name_of(c, cast.to)))
+}
+
+fn is_castable(c: &Catalog, t: TypeNo) -> bool
+    ensures { result ≡ is_castable c.now t }
+{
+    !is_domain(c, t) && !is_pseudo_type(c, t)
+}
+
+fn has_good_types(c: &Catalog, cast: &CastRow) -> bool
+    ensures { result ≡ has_good_args c.now (Record.Cast cast.now) }
+{
+    is_castable(c, cast.from)
+        && is_castable(c, cast.to)
+        && cast.from != cast.to
+        && (cast.method != CastMethod::Binary || may_be_binary(c, cast))
+}
+
+/// Whether a function's arguments and result, an operator's operands and a cast's types may stand together.
+pub fn has_good_args(c: &Catalog, r: &Record) -> bool
+    ensures { result ≡ has_good_args c.now r.now }
+{
+    match r {
+        Record::Function(func) => has_good_signature(c, func),
+        Record::Operator(oper) => has_good_operands(c, oper),
+        Record::Cast(cast) => has_good_types(c, cast),
+        Record::Plain { .. } | Record::Range { .. } | Record::Domain { .. } => true,
+    }
+}
+
+fn func_row(c: &Catalog, number: RowNo) -> Option<&FuncRow>
+    ensures { option_map (λ row. row.now) result ≡ slice_get c.now.funcs number.0 }
+{
+    if number.0 < c.counts().funcs {
+        Some(c.func_row(number))
+    } else {
+        None
+    }
+}
+
+fn takes_exactly(c: &Catalog, number: RowNo, args: &[TypeNo]) -> bool
+    ensures { result ≡ takes_exactly c.now number args.now }
+{
+    match func_row(c, number) {
+        Some(func) => func.args.as_slice() == args,
+        None => false,
+    }
+}
+
+fn casts_by(c: &Catalog, number: RowNo, from: TypeNo, to: TypeNo) -> bool
+    ensures { result ≡ casts_by c.now number from to }
+{
+    match func_row(c, number) {
+        Some(func) => func.args.as_slice() == [from].as_slice() && func.result == to,
+        None => false,
+    }
+}
+
+fn has_cast_function(c: &Catalog, cast: &CastRow) -> bool
+    ensures { result ≡ has_function c.now (Record.Cast cast.now) }
+{
+    match cast.method {
+        CastMethod::Function(number) => casts_by(c, number, cast.from, cast.to),
+        CastMethod::Binary | CastMethod::None => true,
+    }
+}
+
+fn has_oper_function(c: &Catalog, oper: &OperRow) -> bool
+    ensures { result ≡ has_function c.now (Record.Operator oper.now) }
+{
+    match oper.left {
+        Some(left) => takes_exactly(c, oper.function, &[left, oper.right]),
+        None => takes_exactly(c, oper.function, &[oper.right]),
+    }
+}
+
+/// Whether the function that a cast or an operator names is there.
+pub fn has_function(c: &Catalog, r: &Record) -> bool
+    ensures { result ≡ has_function c.now r.now }
+{
+    match r {
+        Record::Cast(cast) => has_cast_function(c, cast),
+        Record::Operator(oper) => has_oper_function(c, oper),
+        Record::Plain { .. } | Record::Range { .. } | Record::Domain { .. } | Record::Function(_) =>
+            true,
+    }
+}
+
+/// Whether a function is as its body says.
+pub fn fits_body(c: &Catalog, r: &Record) -> bool
+    requires { has_known_types c.now r.now ≡ true }
+    ensures { result ≡ fits_body c.now r.now }
+{
+    match r {
+        Record::Function(func) => fits(c, func),
+        _ => true,
+    }
+}

@@ -1,0 +1,49 @@
+-- Reading in steps: what is left, and steps that are alike.
+use Rattle.std.proofs.Common.{◌≡◌, Bool, true, false, List, [], ◌∷◌, Option, Some, None, Ok, Err, refl, ap, ◌∙◌, if◌then◌else◌}
+use denote.Ref.{Bor}
+use Rattle.xp_lexer.specs.declared.token.Token.{Token}
+use Rattle.xp_grammar.specs.declared.kind.Class.{Class}
+use Rattle.xp_grammar.specs.declared.ast.Ast.{Ast}
+use Rattle.xp_grammar.specs.Kinds.{kind, has}
+use Rattle.xp_grammar.specs.Table.{Level, Value, Word, Tree}
+use Rattle.xp_grammar.specs.Machine.{Outcome, Parser, and_then, ◌>>=◌, pure, expect, eat, taken, after, parse, more}
+use Rattle.xp_parser.specs.Parts.{chain_part}
+use Rattle.xp_parser.specs.Reading.{Eats}
+
+-- a token that may be there or not, and makes no difference
+pub skipped : (c : Class) (ts new : List Token) (o : Option (Bor Token)) (p : Parser Value) → Eats (eat c ts) o new → after c (λ t. p) p ts ≡ p new
+skipped c ts new (Some t) p e = ap (λ z. and_then z (taken (λ t'. p) p)) e
+skipped c ts new None p e = ap (λ z. and_then z (taken (λ t'. p) p)) e
+
+-- what is done behind a token makes the difference
+pub after_same : {A : Type 0} (c : Class) (f g : Token → Parser A) (p q : Parser A) (ts : List Token)
+    → ((t : Token) (r : List Token) → f t r ≡ g t r) → ((r : List Token) → p r ≡ q r) → after c f p ts ≡ after c g q ts
+after_same c f g p q [] h k = k []
+after_same {A = A} c f g p q (t ∷ ts) h k = by (has c (kind t))
+  where
+    by : (b : Bool) → ◌≡◌ {A = Outcome A} (and_then (if b then Ok (Some t, ts) else Ok (None, t ∷ ts)) (taken f p)) (and_then (if b then Ok (Some t, ts) else Ok (None, t ∷ ts)) (taken g q))
+    by true = h t ts
+    by false = k (t ∷ ts)
+
+pub expect_same : {A : Type 0} (c : Class) (f g : Token → Parser A) (ts : List Token) → ((t : Token) (r : List Token) → f t r ≡ g t r) → (expect c >>= f) ts ≡ (expect c >>= g) ts
+expect_same {A = A} c f g ts h = by (expect c ts)
+  where
+    by : (o : Outcome Token) → and_then o f ≡ and_then o g
+    by (Ok p) = h p.0 p.1
+    by (Err n) = refl
+
+-- a value in between
+pub pure_then : {A B C : Type 0} (o : Outcome A) (g : A → B) (f : B → Parser C) → and_then (and_then o (λ a. pure (g a))) f ≡ and_then o (λ a. f (g a))
+pure_then (Ok p) g f = refl
+pure_then (Err n) g f = refl
+
+-- one more operand
+pub chain_turn : (c : Class) (inner outer : Level) (join : Value → List Value → Value) (a b e : Ast) (t : Token) (whole : Outcome Value) (ts us r : List Token)
+    → whole ≡ more outer (Tree a) ts → more outer (Tree a) ts ≡ chain_part c inner outer join (Tree a) ts
+    → eat c ts ≡ Ok (Some t, us) → parse inner us ≡ Ok (Tree b, r) → join (Tree a) (Word t ∷ Tree b ∷ []) ≡ Tree e → whole ≡ more outer (Tree e) r
+unfolding chain_part
+chain_turn c inner outer join a b e t whole ts us r same law eaten read built =
+    same ∙ law
+    ∙ ap (λ z. and_then z (taken (λ t'. parse inner >>= (λ w. more outer (join (Tree a) (Word t' ∷ w ∷ [])))) (pure (Tree a)))) eaten
+    ∙ ap (λ z. and_then z (λ w. more outer (join (Tree a) (Word t ∷ w ∷ [])))) read
+    ∙ ap (λ z. more outer z r) built

@@ -1,0 +1,7 @@
+use Rattle.std.proofs.Common.{◌≡◌, drop}
+use Rattle.xp_parser.specs.Depth.{deep_from, seen, first_deep}
+use Rattle.xp_parser.proofs.depth.first_deep.Given as goal
+
+-- the first deep token of the rest is that of all
+abbrev pub invariant-loop-at : goal.invariant-loop-at
+invariant-loop-at l = deep_from l.at l.before (seen l.groups.part l.groups.outer.items) (drop l.at l.tokens) ≡ first_deep l.fn.tokens

@@ -1,0 +1,22 @@
+-- A function that reads an expression within another, of fewer tokens than a number.
+use Rattle.std.specs.Prelude.{ℕ, ◌<◌, length, Result, List}
+use Rattle.std.specs.declared.alloc.Global.{Global}
+use denote.Ref.{MutBor}
+use Rattle.xp_lexer.specs.declared.token.Token.{Token}
+use Rattle.xp_grammar.specs.declared.ast.Ast.{Ast}
+use Rattle.xp_grammar.specs.Table.{Level, Tree}
+use Rattle.xp_grammar.specs.Machine.{parse}
+use Rattle.xp_parser.specs.declared.grammar.Nested.{Nested}
+use Rattle.xp_parser.specs.declared.grammar.Nested.TheVariants.{Expression, Operation}
+use Rattle.xp_parser.specs.declared.trouble.Trouble.{Trouble}
+use Rattle.xp_parser.specs.Reading.{Reads}
+
+abbrev pub level_of : Nested → Level
+level_of Expression = Level.E0
+level_of Operation = Level.E6
+
+pub record Nests (room : ℕ) (pre : Global → Nested → MutBor (List Token) → Type 0)
+    (post : Global → Nested → MutBor (List Token) → Result Ast Trouble → MutBor (List Token) → Type 0) : Type 0 where
+  pub callable : (alloc : Global) (which : Nested) (old : MutBor (List Token)) → length old.now < room → pre alloc which old
+  pub reads : (alloc : Global) (which : Nested) (old new : MutBor (List Token)) (r : Result Ast Trouble) → post alloc which old r new
+      → Reads Tree (parse (level_of which) old.now) r new.now

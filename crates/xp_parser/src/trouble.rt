@@ -1,0 +1,32 @@
+//! Why the tokens are no statement.
+use std::alloc::AllocError;
+use xp_base::Memory;
+
+#[derive(Clone, Copy, Debug, PartialEq, Eq)]
+pub(crate) enum Trouble {
+    /// No statement goes on with the token from which so many are left.
+    Syntax { left: usize },
+    Memory,
+}
+
+impl From<AllocError> for Trouble {
+    ghost use Rattle.std.specs.Prelude.{◌≡◌};
+    ghost use Rattle.xp_parser.specs.declared.trouble.Trouble.TheVariants.{Memory};
+
+    ghost from_gives = { λ _ e. e ≡ Memory };
+
+    fn from(_: AllocError) -> Trouble {
+        Trouble::Memory
+    }
+}
+
+impl From<Memory> for Trouble {
+    ghost use Rattle.std.specs.Prelude.{◌≡◌};
+    ghost use Rattle.xp_parser.specs.declared.trouble.Trouble.TheVariants.{Memory};
+
+    ghost from_gives = { λ _ e. e ≡ Memory };
+
+    fn from(_: Memory) -> Trouble {
+        Trouble::Memory
+    }
+}
