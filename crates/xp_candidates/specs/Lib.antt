@@ -1,0 +1,7 @@
+pub mod Forms
+pub mod Known
+pub mod Accepted
+pub mod Slots
+pub mod Bound
+pub mod Marked
+pub mod Chosen

@@ -1,0 +1,4 @@
+pub mod Candidates
+pub mod Exact
+pub mod Request
+pub mod Picked

@@ -1,0 +1,89 @@
+//! Variadic records with their last parameter as several arguments.
+ghost use Rattle.std.specs.Prelude.{◌≡◌, ◌+◌, ◌<◌, ◌≤◌, IfOk, IfSome, codes, false, length, replicate, take, ◌++◌};
+ghost use Rattle.std.specs.Option.{ForSome};
+ghost use Rattle.xp_types.specs.Within.{AreTypes};
+ghost use Rattle.xp_catalog.specs.Known.{IsKnownFunc};
+ghost use Rattle.xp_catalog.specs.Rules.{is_called};
+ghost use Rattle.xp_candidates.specs.Accepted.{IsCandidate};
+ghost use Rattle.xp_func.specs.Candidates.{element_of, expanded_of, expansion};
+
+use sqlite_items::Items;
+use std::alloc::{AllocError, Global};
+use xp_base::{RowNo, TypeNo};
+use xp_candidates::{Candidate, is_called};
+use xp_catalog::{Catalog, FuncRow};
+use xp_types::element;
+
+/// The type of one argument of a variadic parameter of that type.
+fn element_of(c: &Catalog, ty: TypeNo) -> Option<TypeNo>
+    requires { ty.0 < length c.now.types }
+    ensures value { result ≡ element_of c.now ty }
+    ensures within { IfSome result (λ type. type.0 < length c.now.types) }
+{
+    if is_called(c, ty, "any") {
+        Some(ty)
+    } else if is_called(c, ty, "anyarray") {
+        c.type_named("anyelement")
+    } else if is_called(c, ty, "anycompatiblearray") {
+        c.type_named("anycompatible")
+    } else {
+        element(c, ty)
+    }
+}
+
+/// The types with that many of one type behind them.
+fn with_copies(
+    alloc: Global,
+    c: &Catalog,
+    types: &[TypeNo],
+    ty: TypeNo,
+    copies: usize,
+) -> Result<Items<TypeNo>, AllocError>
+    requires types { AreTypes c.now types.now }
+    requires ty { ty.0 < length c.now.types }
+    ensures value { IfOk result (λ list. list ≡ types.now ++ replicate copies ty) }
+    ensures known { IfOk result (λ list. AreTypes c.now list) }
+{
+    let mut list = Items::from_slice(alloc, types)?;
+    for _copy in 0..copies {
+        list.push(ty)?;
+    }
+    Ok(list)
+}
+
+/// A variadic record for a call of `count` arguments, which are one at least for its last
+/// parameter.
+pub fn expansion(
+    alloc: Global,
+    c: &Catalog,
+    count: usize,
+    number: u32,
+    func: &FuncRow,
+) -> Result<Option<Candidate>, AllocError>
+    requires known { IsKnownFunc c.now func.now }
+    requires one_type { is_called c.now func.now.result (codes "any") ≡ false }
+    requires number { number < length c.now.funcs }
+    requires room { count ≤ 100 }
+    ensures value { IfOk result (λ form. form ≡ expansion c.now count number func.now) }
+    ensures known { IfOk result (λ form. ForSome form (IsCandidate c.now count)) }
+    ensures row { IfOk result (λ form. ForSome form (λ cand. cand.row.0 < length c.now.funcs)) }
+{
+    let args = func.args.as_slice();
+    if args.len() > count {
+        return Ok(None);
+    }
+    let Some(last) = args.last() else {
+        return Ok(None);
+    };
+    let Some(ty) = element_of(c, *last) else {
+        return Ok(None);
+    };
+    let front = args.len() - 1;
+    let extra = count - front;
+    Ok(Some(Candidate {
+        row: RowNo(number),
+        declared: with_copies(alloc, c, &args[..front], ty, extra)?,
+        yields: func.result,
+        expanded: extra as u32,
+    }))
+}

@@ -1,0 +1,12 @@
+//! The operator that a name and the types of its operands mean (manual 10.2).
+#![tactic(auto)]
+
+mod candidates;
+mod exact;
+mod pick;
+
+pub use pick::pick_operator;
+pub use xp_candidates::Pick;
+
+#[cfg(test)]
+mod tests;

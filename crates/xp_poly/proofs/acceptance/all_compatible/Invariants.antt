@@ -1,0 +1,8 @@
+use Rattle.std.proofs.Common.{◌≡◌, drop}
+use Rattle.std.specs.List.{list_all}
+use Rattle.xp_poly.specs.Acceptance.{fits_compatible}
+use Rattle.xp_poly.proofs.acceptance.all_compatible.Given as goal
+
+-- the inputs from here on answer as all do
+abbrev pub invariant-loop-given : goal.invariant-loop-given
+invariant-loop-given l = list_all (fits_compatible l.c l.t l.range) (drop l.given-index l.inputs) ≡ list_all (fits_compatible l.c l.t l.range) l.inputs

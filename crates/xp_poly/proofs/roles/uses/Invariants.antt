@@ -1,0 +1,7 @@
+use Rattle.std.proofs.Common.{◌≡◌, drop}
+use Rattle.xp_poly.specs.Acceptance.{uses}
+use Rattle.xp_poly.proofs.roles.uses.Given as goal
+
+-- the types from here on answer as all do
+abbrev pub invariant-loop-t : goal.invariant-loop-t
+invariant-loop-t l = uses l.c l.family (drop l.t-index l.declared) ≡ uses l.c l.family l.declared

@@ -1,0 +1,4 @@
+pub mod Roles
+pub mod Members
+pub mod Acceptance
+pub mod Bound

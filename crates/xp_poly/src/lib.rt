@@ -1,0 +1,12 @@
+//! Polymorphic types: whether declared types accept inputs, and what they stand for in a call
+//! (manual 38.2.5).
+#![tactic(auto)]
+
+mod acceptance;
+mod bound;
+mod members;
+mod roles;
+mod room;
+
+pub use acceptance::accepts;
+pub use bound::{Binding, bind};

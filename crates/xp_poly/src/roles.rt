@@ -1,0 +1,158 @@
+//! The pseudo-types by what they stand for (manual 38.2.5).
+ghost use Rattle.std.specs.Prelude.{◌≡◌, ◌<◌, length};
+ghost use Rattle.std.specs.List.{list_any};
+ghost use Rattle.xp_types.specs.Within.{AreTypes, IsType};
+ghost use Rattle.xp_poly.specs.Roles.{first_role, is_family, is_of, role, role_of, second_role};
+ghost use Rattle.xp_poly.specs.Acceptance.{has_nonarray, is_nonarray, uses};
+
+use xp_base::TypeNo;
+use xp_catalog::Catalog;
+
+/// The two families of polymorphic types.
+#[derive(Clone, Copy, Debug, PartialEq, Eq)]
+pub enum Family {
+    /// Those whose members are of one element type in a call.
+    First,
+    /// Those whose members are brought to a common type.
+    Second,
+}
+
+/// What a member of a family stands for, by the family's type.
+#[derive(Clone, Copy, Debug, PartialEq, Eq)]
+pub enum Form {
+    /// The type.
+    Element,
+    /// The type, which is no array.
+    NonArray,
+    /// An array over it.
+    Array,
+    /// A range over it.
+    Range,
+}
+
+/// What a declared type stands for.
+#[derive(Clone, Copy, Debug, PartialEq, Eq)]
+pub enum Role {
+    /// Itself.
+    Plain,
+    /// Every type.
+    Any,
+    Member { family: Family, form: Form },
+}
+
+impl Family {
+    pub fn is(self, of: Family) -> bool
+        ensures { result ≡ is_family self of }
+    {
+        match (self, of) {
+            (Family::First, Family::First) | (Family::Second, Family::Second) => true,
+            _ => false,
+        }
+    }
+}
+
+impl Role {
+    pub fn is_of(self, family: Family) -> bool
+        ensures { result ≡ is_of family self }
+    {
+        match self {
+            Role::Member { family: of, .. } => family.is(of),
+            _ => false,
+        }
+    }
+
+    /// Whether it is anycompatiblenonarray.
+    pub fn is_nonarray(self) -> bool
+        ensures { result ≡ is_nonarray self }
+    {
+        matches!(
+            self,
+            Role::Member {
+                family: Family::Second,
+                form: Form::NonArray
+            }
+        )
+    }
+}
+
+fn member(family: Family, form: Form) -> Role
+    ensures { result ≡ Role.Member family form }
+{
+    Role::Member { family, form }
+}
+
+fn first_role(name: &str) -> Role
+    ensures { result ≡ first_role name.now }
+{
+    if name == "anyelement" {
+        member(Family::First, Form::Element)
+    } else if name == "anynonarray" {
+        member(Family::First, Form::NonArray)
+    } else if name == "anyarray" {
+        member(Family::First, Form::Array)
+    } else if name == "anyrange" {
+        member(Family::First, Form::Range)
+    } else {
+        Role::Plain
+    }
+}
+
+fn second_role(name: &str) -> Role
+    ensures { result ≡ second_role name.now }
+{
+    if name == "anycompatible" {
+        member(Family::Second, Form::Element)
+    } else if name == "anycompatiblenonarray" {
+        member(Family::Second, Form::NonArray)
+    } else if name == "anycompatiblearray" {
+        member(Family::Second, Form::Array)
+    } else if name == "anycompatiblerange" {
+        member(Family::Second, Form::Range)
+    } else {
+        first_role(name)
+    }
+}
+
+fn role_of(name: &str) -> Role
+    ensures { result ≡ role_of name.now }
+{
+    if name == "any" {
+        Role::Any
+    } else {
+        second_role(name)
+    }
+}
+
+/// What the declared type stands for.
+pub fn declared_role(c: &Catalog, declared: TypeNo) -> Role
+    requires { IsType c.now declared }
+    ensures { result ≡ role c.now declared }
+{
+    role_of(c.type_row(declared).name.as_str())
+}
+
+/// Whether some declared type is of the family.
+pub fn uses(c: &Catalog, family: Family, declared: &[TypeNo]) -> bool
+    requires { AreTypes c.now declared.now }
+    ensures { result ≡ uses c.now family declared.now }
+{
+    for t in declared {
+        if declared_role(c, *t).is_of(family) {
+            return true;
+        }
+    }
+    false
+}
+
+/// Whether anycompatiblenonarray is declared somewhere.
+pub fn has_nonarray(c: &Catalog, declared: &[TypeNo]) -> bool
+    requires { AreTypes c.now declared.now }
+    ensures { result ≡ has_nonarray c.now declared.now }
+{
+    for t in declared {
+        if declared_role(c, *t).is_nonarray() {
+            return true;
+        }
+    }
+    false
+}

@@ -1,0 +1,18 @@
+//! Lists at the front of a room.
+ghost use Rattle.std.specs.Prelude.{◌≡◌, ◌+◌, ◌<◌, ◌≤◌, ◌++◌, length, option_to_list, take};
+
+/// Puts the item, where there is one, behind those at the front, and tells how many they are then.
+pub fn put<T: Copy>(room: &mut [T], count: usize, item: Option<T>) -> usize
+    requires within { count < length room.old }
+    requires room { length room.old ≡ 100 }
+    ensures count { result ≤ count + 1 }
+    ensures list { take result room.new ≡ take count room.old ++ option_to_list item }
+{
+    match item {
+        Some(item) => {
+            room[count] = item;
+            count + 1
+        }
+        None => count,
+    }
+}

@@ -1,0 +1,163 @@
+//! The path from one type to another (manual 10.1, 10.4; CREATE CAST).
+ghost use Rattle.std.specs.Prelude.{◌≡◌, ◌<◌, IfSome, length, option_map};
+ghost use Rattle.xp_types.specs.Readers.{base, element, is_same};
+ghost use Rattle.xp_types.specs.Paths.{allowed_at, by_cast, converts, elements_convert, first_rule, is_path, is_string, path, path_of_bases, serves, without_cast};
+
+use crate::readers::{base, category, element, is_domain, is_known};
+use xp_base::{RowNo, TypeNo};
+use xp_catalog::{Catalog, Context};
+
+/// How a value of one type becomes one of another.
+#[derive(Clone, Copy, Debug, PartialEq, Eq)]
+pub enum PathKind {
+    /// A literal without a type is read as the type.
+    Literal,
+    /// The types are the same.
+    Same,
+    /// The value stays: the types are one domain, or a domain and its base, or domains over one base.
+    Relabel,
+    /// By the cast of that row.
+    Cast(RowNo),
+    /// Element by element.
+    Elements,
+    /// By the text that stands for the value.
+    ByOutput,
+    /// By reading the text as a value of the type.
+    ByInput,
+    /// There is none.
+    NoPath,
+}
+
+impl PathKind {
+    pub fn is_path(self) -> bool
+        ensures { result ≡ is_path self }
+    {
+        !matches!(self, PathKind::NoPath)
+    }
+}
+
+/// Whether a cast of that context is allowed in another.
+fn serves(context: Context, wanted: Context) -> bool
+    ensures { result ≡ serves context wanted }
+{
+    match context {
+        Context::Implicit => true,
+        Context::Assignment => wanted != Context::Implicit,
+        Context::Explicit => wanted == Context::Explicit,
+    }
+}
+
+fn is_string(c: &Catalog, t: TypeNo) -> bool
+    requires { t.0 < length c.now.types }
+    ensures { result ≡ is_string c.now t }
+{
+    category(c, t) == b'S'
+}
+
+/// The path that the cast between the types decides, where there is one.
+fn by_cast(c: &Catalog, wanted: Context, from: TypeNo, to: TypeNo) -> Option<PathKind>
+    ensures { result ≡ by_cast c.now wanted from to }
+{
+    let row = c.cast_between(from, to)?;
+    if serves(c.cast_row(row).context, wanted) {
+        Some(PathKind::Cast(row))
+    } else {
+        Some(PathKind::NoPath)
+    }
+}
+
+/// The path where no cast stands for the types: element by element, then through text.
+fn without_cast(
+    c: &Catalog,
+    wanted: Context,
+    from: TypeNo,
+    to: TypeNo,
+    by_elements: bool,
+) -> PathKind
+    requires from { from.0 < length c.now.types }
+    requires to { to.0 < length c.now.types }
+    ensures { result ≡ without_cast c.now wanted from to by_elements }
+{
+    if by_elements {
+        PathKind::Elements
+    } else if is_string(c, to) && serves(Context::Assignment, wanted) {
+        PathKind::ByOutput
+    } else if is_string(c, from) && serves(Context::Explicit, wanted) {
+        PathKind::ByInput
+    } else {
+        PathKind::NoPath
+    }
+}
+
+fn path_of_bases(
+    c: &Catalog,
+    wanted: Context,
+    from: TypeNo,
+    to: TypeNo,
+    by_elements: bool,
+) -> PathKind
+    requires from { from.0 < length c.now.types }
+    requires to { to.0 < length c.now.types }
+    ensures { result ≡ path_of_bases c.now wanted from to by_elements }
+{
+    match by_cast(c, wanted, from, to) {
+        Some(path) => path,
+        None => without_cast(c, wanted, from, to, by_elements),
+    }
+}
+
+/// The first rule that applies, where it is known whether the path may go by elements.
+fn first_rule(c: &Catalog, wanted: Context, s: TypeNo, t: TypeNo, by_elements: bool) -> PathKind
+    requires s { s.0 < length c.now.types }
+    requires t { t.0 < length c.now.types }
+    ensures { result ≡ first_rule c.now wanted s t by_elements }
+{
+    if !is_known(s) {
+        return PathKind::Literal;
+    }
+    if s == t {
+        return PathKind::Same;
+    }
+    let from = base(c, s);
+    let to = base(c, t);
+    if from == to {
+        PathKind::Relabel
+    } else {
+        path_of_bases(c, wanted, from, to, by_elements)
+    }
+}
+
+/// Whether the elements of two arrays have a path.
+fn elements_convert(c: &Catalog, wanted: Context, from: Option<TypeNo>, to: Option<TypeNo>) -> bool
+    requires from { IfSome from (λ type. type.0 < length c.now.types) }
+    requires to { IfSome to (λ type. type.0 < length c.now.types) }
+    ensures { result ≡ elements_convert c.now wanted from to }
+{
+    match (from, to) {
+        (Some(s), Some(t)) => {
+            !is_domain(c, s) && !is_domain(c, t) && first_rule(c, wanted, s, t, false).is_path()
+        }
+        _ => false,
+    }
+}
+
+/// The path from a type to another in a context.
+pub fn path(c: &Catalog, s: TypeNo, t: TypeNo, context: Context) -> PathKind
+    requires s { s.0 < length c.now.types }
+    requires t { t.0 < length c.now.types }
+    ensures value { result ≡ path c.now s t context }
+{
+    let from = element(c, base(c, s));
+    let to = element(c, base(c, t));
+    let by_elements = elements_convert(c, context, from, to);
+    first_rule(c, context, s, t, by_elements)
+}
+
+/// Whether there is an implicit path.
+pub fn converts(c: &Catalog, s: TypeNo, t: TypeNo) -> bool
+    requires s { s.0 < length c.now.types }
+    requires t { t.0 < length c.now.types }
+    ensures { result ≡ converts c.now s t }
+{
+    path(c, s, t, Context::Implicit).is_path()
+}
