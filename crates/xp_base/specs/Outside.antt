@@ -1,5 +1,5 @@
 -- What a shelf answers and what a sink takes.
-use Rattle.std.specs.Prelude.{◌≡◌, ℕ, ◌+◌, ◌<◌, ◌≤◌, List, [], ◌∷◌, Option, Some, None, Result, Ok, Err, IfSome, MatchOption, length, cond, ◌⊎◌}
+use Rattle.std.specs.Prelude.{◌≡◌, ℕ, ◌+◌, ◌<◌, ◌≤◌, List, [], ◌∷◌, Option, Some, None, Result, Ok, Err, IfSome, length, cond, ◌⊎◌}
 use Rattle.std.specs.Str.{bytes_eq}
 use Rattle.xp_base.specs.Growth.{grown, GrowsWithin, Rose}
 use Rattle.xp_base.specs.declared.outside.LoadFault.{LoadFault}

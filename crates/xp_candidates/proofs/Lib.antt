@@ -5,3 +5,4 @@ pub mod Among
 pub mod Made
 pub mod OneType
 pub mod There
+pub mod Others

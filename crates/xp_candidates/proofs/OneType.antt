@@ -1,23 +1,22 @@
 -- No function of a catalogue yields `any`, by the rules that its records keep.
-use Rattle.std.proofs.Common.{◌≡◌, ℕ, zero, suc, ◌<◌, List, [], ◌∷◌, ◌++◌, Bool, true, false, ◌&&◌, not, cond, length, slice_get, Some, refl, ap, subst, sym, ◌∙◌, arith}
+use Rattle.std.proofs.Common.{◌≡◌, ℕ, zero, suc, ◌<◌, List, [], ◌∷◌, ◌++◌, Bool, true, false, ◌&&◌, not, cond, length, slice_get, Some, refl, ap, subst, ◌∙◌, arith}
 use Rattle.std.specs.Prelude.{codes, nat_le}
 use Rattle.std.specs.Str.{bytes_eq}
 use Rattle.std.specs.List.{All, list_all}
 use Rattle.std.specs.Option.{option_map_or}
 use Rattle.std.proofs.lemmas.Option.{get_or_from_slice_get, slice_get_within}
 use Rattle.std.proofs.lemmas.List.Elements.{All-append, All-cons, All-nil, All-weaker}
-use Rattle.xp_base.specs.declared.numbers.TypeNo.{TypeNo}
+use Rattle.std.proofs.lemmas.Bool.{and_parts, not-true}
 use Rattle.xp_catalog.specs.declared.rows.TypeKind.TheVariants as kind
 use Rattle.xp_catalog.specs.declared.rows.TypeRow.{TypeRow}
 use Rattle.xp_catalog.specs.declared.rows.FuncRow.{FuncRow}
 use Rattle.xp_catalog.specs.declared.record.Record.{Record}
 use Rattle.xp_catalog.specs.declared.record.Record.TheVariants as row
-use Rattle.xp_catalog.specs.Contents.{Contents, added, array_row, category_at, first_contents, type_row}
-use Rattle.xp_catalog.specs.Rules.{first_family, has_good_last, has_member, is_called, is_known, keeps_rules, name_of, second_family}
+use Rattle.xp_catalog.specs.Contents.{Contents, added, array_row, first_contents, type_row}
+use Rattle.xp_catalog.specs.Rules.{first_family, has_good_last, has_member, is_called, is_known, keeps_rules, second_family}
 use Rattle.xp_catalog.specs.Spelling.{is_among, pseudo_names}
 use Rattle.xp_catalog.specs.WellFormed.{IsBuilt, more, nothing}
-use Rattle.xp_catalog.proofs.Ascii.{and_left, and_right}
-use Rattle.xp_catalog.proofs.Keeps.{Keeps, keeps-each, known-within}
+use Rattle.xp_catalog.proofs.Keeps.{keeps-each, known-within}
 
 pub record YieldsOne (c : Contents) (func : FuncRow) : Type 0 where
   pub within : func.result.0 < length c.types
@@ -55,10 +54,6 @@ YieldsOne-later before after stay func one =
       one_type = ap (λ found. bytes_eq (option_map_or (λ type. type.name) found []) (codes "any")) here.1 ∙ one.one_type;
     }
 
-not-true : (test : Bool) → not test ≡ true → test ≡ false
-not-true true is = sym is
-not-true false is = refl
-
 YieldsOne-new : (c : Contents) (func : FuncRow) → keeps_rules c (row.Function func) ≡ true → YieldsOne c func
 YieldsOne-new c func keeps =
     let rules = keeps-each c (row.Function func) keeps in
@@ -67,10 +62,10 @@ YieldsOne-new c func keeps =
     let one = not (is_called c func.result (codes "any")) in
     let first = has_member c first_family func.args func.result in
     let second = has_member c second_family func.args func.result in
-    let arguments = and_left (few && last && one) first (and_left (few && last && one && first) second rules.arguments) in
+    let arguments = (and_parts (few && last && one) first (and_parts (few && last && one && first) second rules.arguments).0).0 in
     record {
-      within = known-within c func.result (and_right (list_all (is_known c) func.args) (is_known c func.result) rules.types);
-      one_type = not-true (is_called c func.result (codes "any")) (and_right (few && last) one arguments);
+      within = known-within c func.result (and_parts (list_all (is_known c) func.args) (is_known c func.result) rules.types).1;
+      one_type = not-true (is_called c func.result (codes "any")) (and_parts (few && last) one arguments).1;
     }
 
 all-later : (before : Contents) (r : Record) → All (YieldsOne before) before.funcs → All (YieldsOne (added before r)) before.funcs

@@ -1,19 +1,20 @@
 -- The places of candidates: what each declares, and what the steps leave.
-use Rattle.std.proofs.Common.{◌≡◌, ℕ, zero, suc, ◌<◌, List, [], ◌∷◌, Bool, true, false, ◌&&◌, cond, length, map, get_or, refl, ◌∙◌, ap, ◌≤◌, arith, Option, Some, None}
+use Rattle.std.proofs.Common.{◌≡◌, ℕ, zero, suc, List, [], ◌∷◌, Bool, true, false, length, map, get_or, refl, ◌∙◌, ap, ◌≤◌, arith}
 use Rattle.std.specs.List.{All, slice_get}
 use Rattle.std.specs.Option.{option_map_or}
 use Rattle.std.proofs.lemmas.List.Elements.{All-head, All-tail}
 use Rattle.std.proofs.lemmas.List.{length-map}
+use Rattle.std.proofs.lemmas.Bool.{and_parts}
 use Rattle.xp_base.specs.declared.numbers.TypeNo.{TypeNo}
 use Rattle.xp_catalog.specs.Contents.{Contents}
-use Rattle.xp_overload.specs.Places.{HaveSlots, kept}
+use Rattle.xp_overload.specs.Places.{HaveSlots}
 use Rattle.xp_overload.specs.Choosing.{left}
 use Rattle.xp_overload.specs.Matches.{matches_at}
 use Rattle.xp_overload.specs.declared.slots.InSlot.{InSlot}
 use Rattle.xp_overload.specs.declared.matches.Match.TheVariants.{Exact, Preferred}
 use Rattle.xp_overload.proofs.Left.{All-kept, All-left, one-as_known_type, one-of_category, one-with_most}
 use Rattle.xp_poly.specs.Acceptance.{accepts}
-use Rattle.xp_candidates.specs.Known.{bases, known_type}
+use Rattle.xp_candidates.specs.Known.{known_type}
 use Rattle.xp_candidates.specs.Accepted.{IsCandidate, takes, takes_as}
 use Rattle.xp_candidates.specs.Slots.{slots_of}
 use Rattle.xp_candidates.specs.Bound.{AcceptsOne}
@@ -28,13 +29,9 @@ have_slots c inputs [] each place within = absurd (omega arith)
 have_slots c inputs (cand ∷ cands) each zero within = let one : IsCandidate c (length inputs) cand = All-head (IsCandidate c (length inputs)) cand cands each in simp length-map one.arity
 have_slots c inputs (cand ∷ cands) each (suc place) within = have_slots c inputs cands (All-tail (IsCandidate c (length inputs)) cand cands each) place (omega arith)
 
-accepts-of : (a b : Bool) → (a && b) ≡ true → a ≡ true
-accepts-of true b is = refl
-accepts-of false b is = is
-
 accepts_at : (c : Contents) (variadic : Bool) (inputs : List TypeNo) (cands : List Candidate) (place : ℕ) → get_or (map (takes c variadic inputs) cands) place false ≡ true → option_map_or (λ cand. accepts c cand.declared inputs) (slice_get cands place) true ≡ true
 accepts_at c variadic inputs [] place is = refl
-accepts_at c variadic inputs (cand ∷ cands) zero is = accepts-of (accepts c cand.declared inputs) _ is
+accepts_at c variadic inputs (cand ∷ cands) zero is = (and_parts (accepts c cand.declared inputs) _ is).0
 accepts_at c variadic inputs (cand ∷ cands) (suc place) is = accepts_at c variadic inputs cands place is
 
 accepts_one-of : (c : Contents) (variadic : Bool) (inputs : List TypeNo) (cands : List Candidate) (places : List ℕ) → All (λ place. get_or (map (takes c variadic inputs) cands) place false ≡ true) places → AcceptsOne c inputs cands (first_two places)

@@ -5,7 +5,6 @@ use Rattle.xp_base.specs.declared.numbers.TypeNo.{TypeNo}
 use Rattle.xp_catalog.specs.Contents.{Contents}
 use Rattle.xp_types.specs.Readers.{unknown}
 use Rattle.xp_poly.specs.Bound.{bonds, bound, concrete, concrete_types, is_indeterminate}
-use Rattle.xp_poly.specs.declared.bound.Binding.{Binding}
 use Rattle.xp_poly.specs.declared.bound.Binding.TheVariants.{Concrete, Indeterminate}
 use Rattle.xp_candidates.specs.Bound.{binds, is_there}
 use Rattle.xp_candidates.specs.declared.candidate.Candidate.{Candidate}

@@ -1,5 +1,5 @@
 -- The choice of one candidate: the steps in their order, on the whole list of candidates (manual 10.2 step 3, 10.3 step 4).
-use Rattle.std.specs.Prelude.{ℕ, List, [], ◌∷◌, Bool, ◌==◌, ◌&&◌, cond, map, slice_get, Option, Some, None, Result, Ok, Err, ◌≡◌}
+use Rattle.std.specs.Prelude.{ℕ, List, Bool, ◌==◌, ◌&&◌, cond, map, slice_get, Result, Ok, Err, ◌≡◌}
 use Rattle.std.specs.Option.{option_map_or}
 use Rattle.xp_base.specs.declared.numbers.TypeNo.{TypeNo}
 use Rattle.xp_base.specs.declared.numbers.RowNo.{RowNo}

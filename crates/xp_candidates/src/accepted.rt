@@ -5,7 +5,7 @@ ghost use Rattle.std.specs.Option.{ForSome};
 ghost use Rattle.xp_types.specs.Within.{AreTypes};
 ghost use Rattle.xp_catalog.specs.Rules.{is_called, last_of};
 ghost use Rattle.xp_poly.specs.Acceptance.{accepts};
-ghost use Rattle.xp_candidates.specs.Accepted.{IsCandidate, is_array, spreads, takes, takes_as};
+ghost use Rattle.xp_candidates.specs.Accepted.{IsCandidate, is_array_based, spreads, takes, takes_as};
 
 use crate::Candidate;
 use crate::known::taken_as;
@@ -13,7 +13,7 @@ use std::alloc::{AllocError, Global};
 use xp_base::TypeNo;
 use xp_catalog::Catalog;
 use xp_poly::accepts;
-use xp_types::{base, element, is_known};
+use xp_types::{base, is_array, is_known};
 
 /// Whether the type has that name in the catalogue.
 pub fn is_called(c: &Catalog, ty: TypeNo, name: &str) -> bool
@@ -23,11 +23,11 @@ pub fn is_called(c: &Catalog, ty: TypeNo, name: &str) -> bool
     c.type_row(ty).name.as_str() == name
 }
 
-fn is_array(c: &Catalog, ty: TypeNo) -> bool
+fn is_array_based(c: &Catalog, ty: TypeNo) -> bool
     requires { ty.0 < length c.now.types }
-    ensures { result ≡ is_array c.now ty }
+    ensures { result ≡ is_array_based c.now ty }
 {
-    is_known(ty) && element(c, base(c, ty)).is_some()
+    is_known(ty) && is_array(c, base(c, ty))
 }
 
 /// Whether behind the word VARIADIC the last input may stand at the last type.
@@ -37,7 +37,7 @@ fn spreads(c: &Catalog, declared: &[TypeNo], inputs: &[TypeNo]) -> bool
     ensures { result ≡ spreads c.now (last_of declared.now) (last_of inputs.now) }
 {
     match (declared.last(), inputs.last()) {
-        (Some(ty), Some(input)) => !is_called(c, *ty, "any") || is_array(c, *input),
+        (Some(ty), Some(input)) => !is_called(c, *ty, "any") || is_array_based(c, *input),
         _ => true,
     }
 }

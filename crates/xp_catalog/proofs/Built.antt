@@ -1,12 +1,12 @@
 -- Records of which each keeps the rules against those before build a catalogue.
 use Rattle.std.proofs.Common.{◌≡◌, ℕ, zero, suc, ◌+◌, ◌<◌, ◌≤◌, List, [], ◌∷◌, true, Some, length, slice_get, take, refl, subst, add-one, arith}
 use Rattle.std.proofs.lemmas.Option.{same_Some, slice_get_within}
+use Rattle.std.proofs.lemmas.Bool.{and_parts}
 use Rattle.xp_catalog.specs.declared.record.Record.{Record}
 use Rattle.xp_catalog.specs.Contents.{Contents, added, first_contents}
 use Rattle.xp_catalog.specs.Rules.{keeps_rules}
 use Rattle.xp_catalog.specs.WellFormed.{HasRoom, IsBuilt, more, nothing}
 use Rattle.xp_catalog.specs.Worked.{added_all, after, keep_rules, worked}
-use Rattle.xp_catalog.proofs.Ascii.{and_left, and_right}
 
 added_all-next : (c : Contents) (records : List Record) (n : ℕ) (r : Record) → slice_get records n ≡ Some r → added_all c (take (suc n) records) ≡ added (added_all c (take n records)) r
 added_all-next c [] n r h = cc h
@@ -15,15 +15,15 @@ added_all-next c (x ∷ records) (suc n) r h = added_all-next (added c x) record
 
 kept_at : (c : Contents) (records : List Record) (n : ℕ) (r : Record) → keep_rules c records ≡ true → slice_get records n ≡ Some r → keeps_rules (added_all c (take n records)) r ≡ true
 kept_at c [] n r k h = cc h
-kept_at c (x ∷ records) zero r k h = let e : x ≡ r = same_Some x r h in subst (λ (y : Record). keeps_rules c y ≡ true) e (and_left (keeps_rules c x) (keep_rules (added c x) records) k)
-kept_at c (x ∷ records) (suc n) r k h = kept_at (added c x) records n r (and_right (keeps_rules c x) (keep_rules (added c x) records) k) h
+kept_at c (x ∷ records) zero r k h = let e : x ≡ r = same_Some x r h in subst (λ (y : Record). keeps_rules c y ≡ true) e (and_parts (keeps_rules c x) (keep_rules (added c x) records) k).0
+kept_at c (x ∷ records) (suc n) r k h = kept_at (added c x) records n r (and_parts (keeps_rules c x) (keep_rules (added c x) records) k).1 h
 
 built_at : (m : ℕ) (c : Contents) (records : List Record) (n : ℕ) → IsBuilt m c → keep_rules c records ≡ true → n ≤ length records → (count : ℕ) × (count ≡ m + n) × IsBuilt count (added_all c (take n records))
 built_at m c records zero built k h = (m, omega arith, built)
 built_at m c [] (suc n) built k h = absurd (omega arith)
 built_at m c (x ∷ records) (suc n) built k h =
-    let first = and_left (keeps_rules c x) (keep_rules (added c x) records) k in
-    let rest = and_right (keeps_rules c x) (keep_rules (added c x) records) k in
+    let first = (and_parts (keeps_rules c x) (keep_rules (added c x) records) k).0 in
+    let rest = (and_parts (keeps_rules c x) (keep_rules (added c x) records) k).1 in
     let p = built_at (m + 1) (added c x) records n (more m c x built first) rest (omega arith) in
     let count : p.0 ≡ m + suc n = omega (arith, p.1) in
     (p.0, count, p.2)

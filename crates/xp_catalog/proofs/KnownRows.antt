@@ -3,6 +3,7 @@ use Rattle.std.proofs.Common.{◌≡◌, ℕ, zero, suc, ◌+◌, ◌*◌, ◌<�
 use Rattle.std.specs.Option.{option_map_or}
 use Rattle.std.specs.List.{All, list_all}
 use Rattle.std.proofs.lemmas.List.Elements.{All-append, All-cons, All-nil, All-push, All-weaker}
+use Rattle.std.proofs.lemmas.Bool.{and_parts}
 use Rattle.xp_base.specs.declared.numbers.TypeNo.{TypeNo}
 use Rattle.xp_catalog.specs.declared.rows.TypeKind.{TypeKind}
 use Rattle.xp_catalog.specs.declared.rows.TypeKind.TheVariants as kind
@@ -22,7 +23,6 @@ use Rattle.xp_catalog.specs.Lookups.{operands}
 use Rattle.xp_catalog.specs.Rules.{has_cast_function, is_known, keeps_rules}
 use Rattle.xp_catalog.specs.Spelling.{is_among, pseudo_names}
 use Rattle.xp_catalog.specs.WellFormed.{HasRoom, IsBuilt, IsWellFormed, more, nothing}
-use Rattle.xp_catalog.proofs.Ascii.{and_left, and_right}
 use Rattle.xp_catalog.proofs.Keeps.{Keeps, keeps-each, known-all, known-within}
 
 -- ---- rows stay known as lists grow
@@ -129,10 +129,10 @@ method_known c cast method.None h = tt
 method_known c cast (method.Function number) h = found-within _ c.funcs number.0 h
 
 operands_known : (c : Contents) (left : Option TypeNo) (right : TypeNo) → list_all (is_known c) (operands left right) ≡ true → IfSome left (λ t. t.0 < length c.types) × (right.0 < length c.types)
-operands_known c None right h = (tt, known-within c right (and_left (is_known c right) true h))
+operands_known c None right h = (tt, known-within c right (and_parts (is_known c right) true h).0)
 operands_known c (Some left) right h =
-    let rest = and_right (is_known c left) (list_all (is_known c) (right ∷ [])) h in
-    (known-within c left (and_left (is_known c left) (list_all (is_known c) (right ∷ [])) h), known-within c right (and_left (is_known c right) true rest))
+    let rest = (and_parts (is_known c left) (list_all (is_known c) (right ∷ [])) h).1 in
+    (known-within c left (and_parts (is_known c left) (list_all (is_known c) (right ∷ [])) h).0, known-within c right (and_parts (is_known c right) true rest).0)
 
 abbrev with_plain : Bool → Contents → List ℕ → ℕ → Bool → ℕ → Contents
 with_plain b c name category preferred line = record c { types = cond b (c.types ++ type_row name category preferred kind.Pseudo line ∷ []) (with_array c.types (type_row name category preferred kind.Plain line)) }
@@ -212,8 +212,8 @@ added_known c (row.Cast cast) p k =
     let grows : Grows c d = record { types = omega arith; funcs = omega arith; domains = omega arith; ranges = omega arith } in
     let old : AreKnown c d = all_later c d grows p in
     let new : IsKnownCast c cast = record {
-      from = known-within c cast.from (and_left (is_known c cast.from) (is_known c cast.to) k.types);
-      to = known-within c cast.to (and_right (is_known c cast.from) (is_known c cast.to) k.types);
+      from = known-within c cast.from (and_parts (is_known c cast.from) (is_known c cast.to) k.types).0;
+      to = known-within c cast.to (and_parts (is_known c cast.from) (is_known c cast.to) k.types).1;
       method = method_known c cast cast.method k.function;
     } in
     record {
@@ -230,8 +230,8 @@ added_known c (row.Function func) p k =
     let grows : Grows c d = record { types = omega arith; funcs = omega arith; domains = omega arith; ranges = omega arith } in
     let old : AreKnown c d = all_later c d grows p in
     let new : IsKnownFunc c func = record {
-      args = known-all c func.args (and_left (list_all (is_known c) func.args) (is_known c func.result) k.types);
-      result = known-within c func.result (and_right (list_all (is_known c) func.args) (is_known c func.result) k.types);
+      args = known-all c func.args (and_parts (list_all (is_known c) func.args) (is_known c func.result) k.types).0;
+      result = known-within c func.result (and_parts (list_all (is_known c) func.args) (is_known c func.result) k.types).1;
     } in
     record {
       types = old.types;

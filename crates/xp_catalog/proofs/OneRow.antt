@@ -4,7 +4,7 @@ use Rattle.std.specs.List.{All, AllPairs, Any, list_all, position}
 use Rattle.std.specs.Str.{bytes_eq}
 use Rattle.std.proofs.Math.Bool.{and-false}
 use Rattle.std.proofs.Math.Seq.{get_or-append_seam}
-use Rattle.std.proofs.lemmas.Bool.{false_from_ne_true}
+use Rattle.std.proofs.lemmas.Bool.{and_parts, false_from_ne_true}
 use Rattle.std.proofs.lemmas.List.{append_cancel_right, get_or_append_left}
 use Rattle.std.proofs.lemmas.List.Elements.{All-append, All-cons, All-nil, All-push, All-weaker}
 use Rattle.std.proofs.lemmas.List.Folds.{list_all-append}
@@ -22,7 +22,6 @@ use Rattle.xp_catalog.specs.Lookups.{has_arguments, has_operands, has_type_name,
 use Rattle.xp_catalog.specs.OneRow.{HasOneRowEach}
 use Rattle.xp_catalog.specs.Spelling.{is_among, is_name, is_name_byte, is_type_name, pseudo_names}
 use Rattle.xp_catalog.specs.WellFormed.{IsBuilt, more, nothing}
-use Rattle.xp_catalog.proofs.Ascii.{and_left, and_right}
 use Rattle.xp_catalog.proofs.Keeps.{Keeps, keeps-each}
 use Rattle.xp_catalog.proofs.Places.{AllPairs-push, position-None}
 
@@ -102,7 +101,7 @@ told_with_array types type told w none =
 -- ---- what a new record isn't
 
 word_of_name : (name : List ℕ) → is_type_name name ≡ true → IsWord name
-word_of_name name h = and_right _ _ (and_left _ _ (and_left (is_name name) (not (bytes_eq name (codes "unknown"))) h))
+word_of_name name h = (and_parts _ _ (and_parts _ _ (and_parts (is_name name) (not (bytes_eq name (codes "unknown"))) h).0).0).1
 
 no_number : {X : Type 0} (f : ℕ → X) (place : Option ℕ) → not (is_some (option_map f place)) ≡ true → place ≡ None
 no_number f None h = refl
@@ -113,7 +112,7 @@ no_type true place known h = cc known
 no_type false place known h = no_number type_number place h
 
 new_name : (c : Contents) (name : List ℕ) → is_type_name name ≡ true → not (is_some (type_named c name)) ≡ true → position (has_type_name name) c.types ≡ None
-new_name c name spelled new = no_type (bytes_eq name (codes "unknown")) (position (has_type_name name) c.types) (and_right (is_name name) (not (bytes_eq name (codes "unknown"))) spelled) new
+new_name c name spelled new = no_type (bytes_eq name (codes "unknown")) (position (has_type_name name) c.types) (and_parts (is_name name) (not (bytes_eq name (codes "unknown"))) spelled).1 new
 
 -- ---- what is built has one row each
 

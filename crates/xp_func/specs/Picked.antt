@@ -1,9 +1,10 @@
 -- The function that a call's name and the types of its arguments mean (manual 10.3).
-use Rattle.std.specs.Prelude.{ℕ, ◌<◌, List, Bool, length, slice_get, Option, Some, None, Result, Ok, Err}
+use Rattle.std.specs.Prelude.{◌≡◌, ℕ, ◌<◌, List, Bool, true, length, slice_get, Option, Some, None, Result, Ok, Err}
+use Rattle.std.specs.List.{list_any}
 use Rattle.std.specs.Option.{option_map_or}
 use Rattle.xp_base.specs.declared.numbers.TypeNo.{TypeNo}
 use Rattle.xp_catalog.specs.Contents.{Contents}
-use Rattle.xp_candidates.specs.Chosen.{chosen, made_of, row_at}
+use Rattle.xp_candidates.specs.Chosen.{chosen, is_of, made_of, row_at}
 use Rattle.xp_candidates.specs.Marked.{first_two}
 use Rattle.xp_candidates.specs.declared.candidate.Candidate.{Candidate}
 use Rattle.xp_candidates.specs.declared.marked.Marked.{Marked}
@@ -46,3 +47,8 @@ picked_function c name inputs variadic = picked_among c name inputs variadic (ca
 abbrev pub IsKnownPick : Contents → PickedFunc → Type 0
 IsKnownPick c (Call row expanded) = row.0 < length c.funcs
 IsKnownPick c (CastRequest type) = type.0 < length c.types
+
+-- a call is one of the candidates of that name for that many arguments
+abbrev pub IsListed : Contents → List ℕ → ℕ → Bool → PickedFunc → Type 0
+IsListed c name count variadic (Call row expanded) = list_any (is_of (record { row = row; expanded = expanded })) (candidates c name count variadic) ≡ true
+IsListed c name count variadic (CastRequest type) = Unit {0}

@@ -4,9 +4,11 @@
 mod candidates;
 mod exact;
 mod expansion;
+mod laws;
 mod pick;
 mod request;
 
+pub use laws::{a_candidate_is_picked, other_functions_change_nothing};
 pub use pick::{PickedFunc, pick_function};
 pub use xp_candidates::Pick;
 

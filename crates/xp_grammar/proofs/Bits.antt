@@ -1,14 +1,9 @@
 -- Tests, and tests of every kind.
 use Rattle.std.proofs.Common.{◌≡◌, ℕ, zero, suc, Bool, true, false, not, ◌&&◌, ◌||◌, ◌==◌, List, [], ◌∷◌, Option, Some, None, refl, sym, ap, subst, ◌∙◌, arith}
+use Rattle.std.proofs.lemmas.Bool.{and_parts}
 use Rattle.xp_grammar.specs.declared.kind.Kind.{Kind}
 use Rattle.xp_grammar.specs.Kinds.{code, same}
 use Rattle.xp_grammar.specs.declared.kind.Kind.TheVariants as k
-
-pub or_false : (a b : Bool) → a || b ≡ false → (a ≡ false) × (b ≡ false)
-or_false a b e = grind arith
-
-pub and_true : (a b : Bool) → a && b ≡ true → (a ≡ true) × (b ≡ true)
-and_true a b e = grind arith
 
 abbrev pub implies : Bool → Bool → Bool
 implies a b = not a || b
@@ -39,8 +34,8 @@ some_same a b e = grind arith
 
 each_at : (p : Kind → Bool) (all : List Kind) (n : ℕ) (a : Kind) → each p all ≡ true → nth n all ≡ Some a → p a ≡ true
 each_at p [] n a e h = grind arith
-each_at p (b ∷ more) zero a e h = subst (λ z. p z ≡ true) (some_same b a h) (and_true (p b) (each p more) e).0
-each_at p (b ∷ more) (suc n) a e h = each_at p more n a (and_true (p b) (each p more) e).1 h
+each_at p (b ∷ more) zero a e h = subst (λ z. p z ≡ true) (some_same b a h) (and_parts (p b) (each p more) e).0
+each_at p (b ∷ more) (suc n) a e h = each_at p more n a (and_parts (p b) (each p more) e).1 h
 
 kind_at : (a : Kind) → nth (code a) kinds ≡ Some a
 kind_at k.Whole = refl

@@ -1,5 +1,6 @@
 -- What is derived is read.
-use Rattle.std.proofs.Common.{◌≡◌, ℕ, zero, suc, ◌+◌, ◌*◌, ◌≤◌, ◌<◌, Bool, true, false, ◌||◌, inl, inr, List, [], ◌∷◌, ◌++◌, length, Option, None, Ok, refl, sym, ap, subst, ◌∙◌, append_assoc, append-nil, length-append, if◌then◌else◌, arith}
+use Rattle.std.proofs.Common.{◌≡◌, ℕ, zero, suc, ◌+◌, ◌*◌, ◌≤◌, ◌<◌, Bool, true, false, inl, inr, List, [], ◌∷◌, ◌++◌, length, Option, None, Ok, refl, sym, ap, subst, ◌∙◌, append_assoc, append-nil, length-append, if◌then◌else◌, arith}
+use Rattle.std.proofs.lemmas.Bool.{or_parts}
 use Rattle.xp_lexer.specs.declared.token.Token.{Token}
 use Rattle.xp_grammar.specs.declared.kind.Kind.{Kind}
 use Rattle.xp_grammar.specs.Kinds.{kind, has, ahead}
@@ -58,11 +59,8 @@ symbol_read (suc n) (Lev l) a r v h led g =
 pub choose_none : {A : Type 0} (n : ℕ) (es : Edges A) (d : Option A) (ts : List Token) → any_opens es (ahead ts) ≡ false → choose (run n) es d ts ≡ finish (run n) d ts
 unfolding walk
 choose_none n stop d ts h = refl
-choose_none n (edge y m es) d ts h = let p = or_false' (opens y (ahead ts)) (any_opens es (ahead ts)) h in
+choose_none n (edge y m es) d ts h = let p = or_parts (opens y (ahead ts)) (any_opens es (ahead ts)) h in
     if_false (opens y (ahead ts)) _ _ p.0 ∙ choose_none n es d ts p.1
-  where
-    or_false' : (a b : Bool) → a || b ≡ false → (a ≡ false) × (b ≡ false)
-    or_false' a b e = grind arith
 
 goes_rest : (y : Sym) (ss : List Sym) (a : Kind) → goes_all (y ∷ ss) a ≡ false → goes_all ss a ≡ false
 goes_rest y [] a g = refl

@@ -14,10 +14,7 @@ use Rattle.xp_grammar.specs.Grammar.{Derives}
 use Rattle.xp_grammar.specs.Reads.{IsFront}
 use Rattle.xp_grammar.proofs.Front.{Front}
 use Rattle.xp_grammar.proofs.Sound.{Whole, and_more, whole_start, whole_tail, widen}
-use Rattle.xp_grammar.proofs.Complete.{led_alone}
-
-pub same_head : {A : Type 0} (x y : A) (xs ys : List A) → x ∷ xs ≡ y ∷ ys → x ≡ y
-same_head x y xs ys e = grind arith
+use Rattle.xp_grammar.proofs.Complete.{led_alone, same_head}
 
 same_tail : {A : Type 0} (x y : A) (xs ys : List A) → x ∷ xs ≡ y ∷ ys → xs ≡ ys
 same_tail x y xs ys e = grind arith

@@ -11,7 +11,7 @@ use Rattle.xp_grammar.proofs.Bits.{implies, implied_false, every, every_at}
 use Rattle.xp_grammar.proofs.Complete.{led_alone, choose_none}
 use Rattle.xp_grammar.proofs.Sound.{Fine, Whole, Begun, run_sound}
 use Rattle.xp_grammar.specs.Table.{Level as l}
-use Rattle.xp_grammar.proofs.Fronts.{left, then_left, run_left, map_left, if_left}
+use Rattle.xp_grammar.proofs.Fronts.{left, then_left, run_left, map_left, if_left, paired}
 
 -- the height of a trie's first level
 abbrev mutual
@@ -64,9 +64,6 @@ mutual
   tall_edges_small : {A : Type 0} (es : Edges A) → tall_edges es ≤ 15
   tall_edges_small stop = omega arith
   tall_edges_small (edge y n es) = omega (arith, height_small y, tall_edges_small es)
-
-abbrev pub paired : {A : Type 0} → Value → A × List Value → A × List Value
-paired v p = (p.0, v ∷ p.1)
 
 pub and_then_same : {A B : Type 0} (o : Outcome A) (f g : A → Parser B) → ((a : A) (r : List Token) → o ≡ Ok (a, r) → f a r ≡ g a r) → and_then o f ≡ and_then o g
 and_then_same (Ok p) f g h = h p.0 p.1 refl

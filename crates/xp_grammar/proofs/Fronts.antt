@@ -37,7 +37,7 @@ pub if_left : {A : Type 0} (b : Bool) (x y : Outcome A) (m : ℕ) → left x ≤
 if_left true x y m p q = p
 if_left false x y m p q = q
 
-abbrev paired : {A : Type 0} → Value → A × List Value → A × List Value
+abbrev pub paired : {A : Type 0} → Value → A × List Value → A × List Value
 paired v p = (p.0, v ∷ p.1)
 
 -- a symbol, and then what stands below its edge

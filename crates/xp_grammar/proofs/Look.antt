@@ -1,5 +1,6 @@
 -- What one token ahead says, and what of that the table keeps.
 use Rattle.std.proofs.Common.{◌≡◌, ℕ, suc, ◌≤◌, Bool, true, false, not, ◌&&◌, ◌||◌, ◌⊎◌, inl, inr, nat_le, List, [], ◌∷◌, Option, Some, None, refl, ap, ◌∙◌, arith}
+use Rattle.std.proofs.lemmas.Bool.{and_parts, or_parts}
 use Rattle.xp_grammar.specs.declared.kind.Kind.{Kind}
 use Rattle.xp_grammar.specs.declared.kind.Class.{Class}
 use Rattle.xp_grammar.specs.Kinds.{has, among}
@@ -9,7 +10,7 @@ use Rattle.xp_grammar.specs.Table.{Level as l}
 use Rattle.xp_grammar.specs.Table.{Start as s}
 use Rattle.xp_grammar.specs.Table.{Tail as c}
 use Rattle.xp_grammar.specs.Machine.{Node, Edges, node, stop, edge, trie, tails, first, opens, any_opens, rank}
-use Rattle.xp_grammar.proofs.Bits.{or_false, and_true, implies, implied, implied_false, every, every_at}
+use Rattle.xp_grammar.proofs.Bits.{implies, implied, implied_false, every, every_at}
 
 abbrev inner_list : Level → List Kind
 inner_list l.Statement = k.String ∷ k.Precision ∷ k.Varying ∷ k.With ∷ k.Without ∷ k.And ∷ k.As ∷ k.Between ∷ k.Ilike ∷ k.In ∷ k.Is ∷ k.Isnull ∷ k.Like ∷ k.Not ∷ k.Notnull ∷ k.Or ∷ k.Union ∷ k.Sign ∷ k.Times ∷ k.Power ∷ k.Compare ∷ k.Other ∷ k.Open ∷ k.OpenBracket ∷ k.Comma ∷ k.Typed ∷ []
@@ -488,16 +489,16 @@ first_of_line x y ss a e h =
 
 pub start_quiet : (x : Start) (a : Kind) → inner (level x) a ≡ false → goes_all (parts x) a ≡ false
 start_quiet x a q = implied_false (goes_all (parts x) a) (inner (level x) a)
-    (every_at (λ b. implies (goes_all (parts x) b) (inner (level x) b)) (and_true _ _ (and_true _ _ (start_ends_ok x)).0).0 a) q
+    (every_at (λ b. implies (goes_all (parts x) b) (inner (level x) b)) (and_parts _ _ (and_parts _ _ (start_ends_ok x)).0).0 a) q
 
 pub start_clear : (x : Start) → clear (parts x) ≡ true
-start_clear x = (and_true _ _ (and_true _ _ (start_ends_ok x)).0).1
+start_clear x = (and_parts _ _ (and_parts _ _ (start_ends_ok x)).0).1
 
 at_most : (m n : ℕ) → nat_le m n ≡ true → m ≤ n
 at_most m n e = grind arith
 
 pub start_head : (x : Start) → head (parts x) ≤ rank (level x)
-start_head x = at_most (head (parts x)) (rank (level x)) (and_true _ _ (start_ends_ok x)).1
+start_head x = at_most (head (parts x)) (rank (level x)) (and_parts _ _ (start_ends_ok x)).1
 
 not_both : (a b : Bool) → not (a && b) ≡ true → b ≡ true → a ≡ false
 not_both a b e h = grind arith
@@ -506,20 +507,20 @@ not_both' : (a b : Bool) → not (a && b) ≡ true → a ≡ true → b ≡ fals
 not_both' a b e h = grind arith
 
 pub clear_at : (x y : Sym) (ss : List Sym) (a : Kind) → clear (x ∷ y ∷ ss) ≡ true → opens y a ≡ true → goes_one x a ≡ false
-clear_at x y ss a e h = not_both (goes_one x a) (opens y a) (every_at (λ b. not (goes_one x b && opens y b)) (and_true _ _ e).0 a) h
+clear_at x y ss a e h = not_both (goes_one x a) (opens y a) (every_at (λ b. not (goes_one x b && opens y b)) (and_parts _ _ e).0 a) h
 
 pub clear_rest : (x : Sym) (ss : List Sym) → clear (x ∷ ss) ≡ true → clear ss ≡ true
 clear_rest x [] e = refl
-clear_rest x (y ∷ ss) e = (and_true _ _ e).1
+clear_rest x (y ∷ ss) e = (and_parts _ _ e).1
 
 pub goes_inner : (m : Level) (a : Kind) → goes m a ≡ false → inner m a ≡ false
 unfolding goes
-goes_inner m a e = (or_false _ _ (or_false _ _ e).0).0
+goes_inner m a e = (or_parts _ _ (or_parts _ _ e).0).0
 
 pub goes_tail : (m : Level) (b : Bool) (a : Kind) → goes m a ≡ false → any_opens (tails m b) a ≡ false
 unfolding goes
-goes_tail m true a e = (or_false _ _ (or_false _ _ e).0).1
-goes_tail m false a e = (or_false _ _ e).1
+goes_tail m true a e = (or_parts _ _ (or_parts _ _ e).0).1
+goes_tail m false a e = (or_parts _ _ e).1
 
 or_left : (a b : Bool) → a ≡ true → a || b ≡ true
 or_left a b e = grind arith
@@ -534,33 +535,33 @@ path_opens (edge z n es) y ss x a (inl (e, p)) h = or_left (opens z a) (any_open
 path_opens (edge z n es) y ss x a (inr p) h = or_right (opens z a) (any_opens es a) (path_opens es y ss x a p h)
 
 pub apart_here : {A : Type 0} (inside : Kind → Bool) (z : Sym) (n : Node A) (es : Edges A) (a : Kind) → apart_edges inside (edge z n es) ≡ true → any_opens es a ≡ true → opens z a ≡ false
-apart_here inside z n es a e h = not_both (opens z a) (any_opens es a) (every_at (λ b. not (opens z b && any_opens es b)) (and_true _ _ (and_true _ _ e).0).0 a) h
+apart_here inside z n es a e h = not_both (opens z a) (any_opens es a) (every_at (λ b. not (opens z b && any_opens es b)) (and_parts _ _ (and_parts _ _ e).0).0 a) h
 
 pub apart_below : {A : Type 0} (inside : Kind → Bool) (z : Sym) (n : Node A) (es : Edges A) → apart_edges inside (edge z n es) ≡ true → apart inside n ≡ true
-apart_below inside z n es e = (and_true _ _ (and_true _ _ e).0).1
+apart_below inside z n es e = (and_parts _ _ (and_parts _ _ e).0).1
 
 pub apart_more : {A : Type 0} (inside : Kind → Bool) (z : Sym) (n : Node A) (es : Edges A) → apart_edges inside (edge z n es) ≡ true → apart_edges inside es ≡ true
-apart_more inside z n es e = (and_true _ _ e).1
+apart_more inside z n es e = (and_parts _ _ e).1
 
 pub apart_edges_of : {A : Type 0} (inside : Kind → Bool) (d : Option A) (es : Edges A) → apart inside (node d es) ≡ true → apart_edges inside es ≡ true
-apart_edges_of inside d es e = (and_true _ _ e).1
+apart_edges_of inside d es e = (and_parts _ _ e).1
 
 pub done_quiet : {A : Type 0} (inside : Kind → Bool) (d : Option A) (x : A) (es : Edges A) (a : Kind) → apart inside (node d es) ≡ true → d ≡ Some x → inside a ≡ false → any_opens es a ≡ false
 done_quiet inside None x es a e h q = absurd cc
-done_quiet inside (Some z) x es a e h q = implied_false (any_opens es a) (inside a) (every_at (λ b. implies (any_opens es b) (inside b)) (and_true _ _ e).0 a) q
+done_quiet inside (Some z) x es a e h q = implied_false (any_opens es a) (inside a) (every_at (λ b. implies (any_opens es b) (inside b)) (and_parts _ _ e).0 a) q
 
 no : (b : Bool) → not b ≡ true → b ≡ false
 no b e = grind arith
 
 pub tail_quiet : (x : Tail) (a : Kind) → inner (on x) a ≡ false → goes_all (rest x) a ≡ false
 tail_quiet x a q = implied_false (goes_all (rest x) a) (inner (on x) a)
-    (every_at (λ b. implies (goes_all (rest x) b) (inner (on x) b)) (and_true _ _ (and_true _ _ (tail_ends_ok x)).0).0 a) q
+    (every_at (λ b. implies (goes_all (rest x) b) (inner (on x) b)) (and_parts _ _ (and_parts _ _ (tail_ends_ok x)).0).0 a) q
 
 pub tail_clear : (x : Tail) → clear (rest x) ≡ true
-tail_clear x = (and_true _ _ (and_true _ _ (tail_ends_ok x)).0).1
+tail_clear x = (and_parts _ _ (and_parts _ _ (tail_ends_ok x)).0).1
 
 pub tail_lead : (x : Tail) (a : Kind) → has (lead x) a ≡ true → inner (on x) a ≡ false
-tail_lead x a h = no _ (implied (has (lead x) a) (not (inner (on x) a)) (every_at (λ b. implies (has (lead x) b) (not (inner (on x) b))) (and_true _ _ (tail_ends_ok x)).1 a) h)
+tail_lead x a h = no _ (implied (has (lead x) a) (not (inner (on x) a)) (every_at (λ b. implies (has (lead x) b) (not (inner (on x) b))) (and_parts _ _ (tail_ends_ok x)).1 a) h)
 
 -- a token by which the line goes on opens its level's tails
 pub tail_opens : (x : Tail) (b : Bool) (a : Kind) → takes x b ≡ true → has (lead x) a ≡ true → any_opens (tails (on x) b) a ≡ true

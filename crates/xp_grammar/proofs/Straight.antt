@@ -1,12 +1,13 @@
 -- A trie read as code goes: straight into the last edge, and with what comes next handed down.
 use Rattle.std.proofs.Common.{◌≡◌, suc, Bool, true, false, not, ◌&&◌, ◌||◌, List, [], ◌∷◌, length, Option, Some, None, Ok, Err, refl, sym, ap, ◌∙◌, if◌then◌else◌, arith}
+use Rattle.std.proofs.lemmas.Bool.{and_parts, or_parts}
 use Rattle.xp_lexer.specs.declared.token.Token.{Token}
 use Rattle.xp_grammar.specs.declared.kind.Kind.TheVariants as k
 use Rattle.xp_grammar.specs.Kinds.{kind, ahead, has}
 use Rattle.xp_grammar.specs.Table.{Level, Tok, Lev, Value, Word, Start, Tail, is_open, made, joined}
 use Rattle.xp_grammar.specs.Machine.{Outcome, Parser, and_then, ◌>>=◌, pure, fail, expect, taken, after, starting, Node, Edges, node, stop, edge, trie, tails, first, any_opens, symbol, walk, choose, used, onward, parse, more}
-use Rattle.xp_grammar.proofs.Bits.{and_true}
-use Rattle.xp_grammar.proofs.Fix.{paired, parse_is, not_first}
+use Rattle.xp_grammar.proofs.Fix.{parse_is, not_first}
+use Rattle.xp_grammar.proofs.Fronts.{paired}
 use Rattle.xp_grammar.proofs.Turns.{more_turn, more_ends}
 
 unfoldable mutual
@@ -84,25 +85,25 @@ module _ {A B : Type 0} (go : A → List Value → Parser B) where
     pub pick_is : (es : Edges A) (d : Option A) (acc : List Value → List Value) (ts : List Token) → sane_edges es ≡ true → handed acc (choose parse es d ts) ≡ pick es d acc go ts
     pick_is stop None acc ts s = refl
     pick_is stop (Some x) acc ts s = refl
-    pick_is (edge (Tok c) n stop) None acc [] s = none_step acc (has c k.Nothing) (Err 0) (Err 0) (Err 0) (is_not _ (and_true (not (has c k.Nothing)) _ s).0) refl
+    pick_is (edge (Tok c) n stop) None acc [] s = none_step acc (has c k.Nothing) (Err 0) (Err 0) (Err 0) (is_not _ (and_parts (not (has c k.Nothing)) _ s).0) refl
     pick_is (edge (Tok c) n stop) None acc (t ∷ ts) s =
-        token_last n acc t ts (has c (kind t)) (reach_is n (λ vs. acc (Word t ∷ vs)) ts (and_true (sane n) _ (and_true (not (has c k.Nothing)) _ s).1).0)
-    pick_is (edge (Tok c) n stop) (Some x) acc [] s = none_step acc (has c k.Nothing) _ (choose parse stop (Some x) []) (pick stop (Some x) acc go []) (is_not _ (and_true (not (has c k.Nothing)) _ s).0) refl
+        token_last n acc t ts (has c (kind t)) (reach_is n (λ vs. acc (Word t ∷ vs)) ts (and_parts (sane n) _ (and_parts (not (has c k.Nothing)) _ s).1).0)
+    pick_is (edge (Tok c) n stop) (Some x) acc [] s = none_step acc (has c k.Nothing) _ (choose parse stop (Some x) []) (pick stop (Some x) acc go []) (is_not _ (and_parts (not (has c k.Nothing)) _ s).0) refl
     pick_is (edge (Tok c) n stop) (Some x) acc (t ∷ ts) s =
-        token_step n acc t ts (has c (kind t)) (choose parse stop (Some x) (t ∷ ts)) (pick stop (Some x) acc go) (reach_is n (λ vs. acc (Word t ∷ vs)) ts (and_true (sane n) _ (and_true (not (has c k.Nothing)) _ s).1).0) refl
+        token_step n acc t ts (has c (kind t)) (choose parse stop (Some x) (t ∷ ts)) (pick stop (Some x) acc go) (reach_is n (λ vs. acc (Word t ∷ vs)) ts (and_parts (sane n) _ (and_parts (not (has c k.Nothing)) _ s).1).0) refl
     pick_is (edge (Tok c) n (edge y n' es)) d acc [] s =
-        none_step acc (has c k.Nothing) _ (choose parse (edge y n' es) d []) (pick (edge y n' es) d acc go []) (is_not _ (and_true (not (has c k.Nothing)) _ s).0)
-        (pick_is (edge y n' es) d acc [] (and_true (sane n) _ (and_true (not (has c k.Nothing)) _ s).1).1)
+        none_step acc (has c k.Nothing) _ (choose parse (edge y n' es) d []) (pick (edge y n' es) d acc go []) (is_not _ (and_parts (not (has c k.Nothing)) _ s).0)
+        (pick_is (edge y n' es) d acc [] (and_parts (sane n) _ (and_parts (not (has c k.Nothing)) _ s).1).1)
     pick_is (edge (Tok c) n (edge y n' es)) d acc (t ∷ ts) s =
-        token_step n acc t ts (has c (kind t)) (choose parse (edge y n' es) d (t ∷ ts)) (pick (edge y n' es) d acc go) (reach_is n (λ vs. acc (Word t ∷ vs)) ts (and_true (sane n) _ (and_true (not (has c k.Nothing)) _ s).1).0)
-        (pick_is (edge y n' es) d acc (t ∷ ts) (and_true (sane n) _ (and_true (not (has c k.Nothing)) _ s).1).1)
+        token_step n acc t ts (has c (kind t)) (choose parse (edge y n' es) d (t ∷ ts)) (pick (edge y n' es) d acc go) (reach_is n (λ vs. acc (Word t ∷ vs)) ts (and_parts (sane n) _ (and_parts (not (has c k.Nothing)) _ s).1).0)
+        (pick_is (edge y n' es) d acc (t ∷ ts) (and_parts (sane n) _ (and_parts (not (has c k.Nothing)) _ s).1).1)
     pick_is (edge (Lev m) n stop) None acc ts s =
-        last_step n acc m ts (first m (ahead ts)) (parse m ts) (λ h. not_first m ts h) (level_step n acc (parse m ts) (λ v r. reach_is n (λ vs. acc (v ∷ vs)) r (and_true (sane n) _ s).0))
+        last_step n acc m ts (first m (ahead ts)) (parse m ts) (λ h. not_first m ts h) (level_step n acc (parse m ts) (λ v r. reach_is n (λ vs. acc (v ∷ vs)) r (and_parts (sane n) _ s).0))
     pick_is (edge (Lev m) n stop) (Some x) acc ts s =
-        either acc (first m (ahead ts)) _ (choose parse stop (Some x) ts) _ (pick stop (Some x) acc go ts) (level_step n acc (parse m ts) (λ v r. reach_is n (λ vs. acc (v ∷ vs)) r (and_true (sane n) _ s).0)) refl
+        either acc (first m (ahead ts)) _ (choose parse stop (Some x) ts) _ (pick stop (Some x) acc go ts) (level_step n acc (parse m ts) (λ v r. reach_is n (λ vs. acc (v ∷ vs)) r (and_parts (sane n) _ s).0)) refl
     pick_is (edge (Lev m) n (edge y n' es)) d acc ts s =
         either acc (first m (ahead ts)) _ (choose parse (edge y n' es) d ts) _ (pick (edge y n' es) d acc go ts)
-        (level_step n acc (parse m ts) (λ v r. reach_is n (λ vs. acc (v ∷ vs)) r (and_true (sane n) _ s).0)) (pick_is (edge y n' es) d acc ts (and_true (sane n) _ s).1)
+        (level_step n acc (parse m ts) (λ v r. reach_is n (λ vs. acc (v ∷ vs)) r (and_parts (sane n) _ s).0)) (pick_is (edge y n' es) d acc ts (and_parts (sane n) _ s).1)
 
 trie_sane : (m : Level) → sane (trie m) ≡ true
 trie_sane Level.Statement = refl
@@ -182,18 +183,15 @@ tails_sane Level.Full b = refl
 tails_sane Level.Basic b = refl
 tails_sane Level.Typename b = refl
 
-or_neither : (a b : Bool) → a || b ≡ false → (a ≡ false) × (b ≡ false)
-or_neither a b e = grind arith
-
 or_second : (a b : Bool) → a ≡ false → a || b ≡ true → b ≡ true
 or_second a b h e = grind arith
 
 again_ends : (l : Level) (v : Value) (es : Edges Tail) (ts : List Token) → any_opens es (ahead ts) ≡ false → again es l v ts ≡ Ok (v, ts)
 unfolding again
 again_ends l v stop ts e = refl
-again_ends l v (edge (Tok c) n es) [] e = again_ends l v es [] (or_neither (has c k.Nothing) (any_opens es k.Nothing) e).1
+again_ends l v (edge (Tok c) n es) [] e = again_ends l v es [] (or_parts (has c k.Nothing) (any_opens es k.Nothing) e).1
 again_ends l v (edge (Tok c) n es) (t ∷ ts) e =
-    let both = or_neither (has c (kind t)) (any_opens es (kind t)) e in
+    let both = or_parts (has c (kind t)) (any_opens es (kind t)) e in
     by (has c (kind t)) both.0 (again_ends l v es (t ∷ ts) both.1)
   where
     by : (b : Bool) → b ≡ false → again es l v (t ∷ ts) ≡ Ok (v, t ∷ ts)
@@ -209,15 +207,15 @@ again_turns : (l : Level) (v : Value) (es : Edges Tail) (ts : List Token) → sa
 unfolding again walk symbol
 again_turns l v stop ts s e = absurd cc
 again_turns l v (edge (Tok c) n es) [] s e =
-    let sides = and_true (not (has c k.Nothing)) (sane n && sane_tails es) s in
+    let sides = and_parts (not (has c k.Nothing)) (sane n && sane_tails es) s in
     let none = is_not (has c k.Nothing) sides.0 in
-    by (has c k.Nothing) none (again_turns l v es [] (and_true (sane n) (sane_tails es) sides.1).1 (or_second (has c k.Nothing) (any_opens es k.Nothing) none e))
+    by (has c k.Nothing) none (again_turns l v es [] (and_parts (sane n) (sane_tails es) sides.1).1 (or_second (has c k.Nothing) (any_opens es k.Nothing) none e))
   where
     by : (b : Bool) → b ≡ false → next_turn l v [] (choose parse es None []) ≡ again es l v [] → next_turn l v [] (if b then Err 0 else choose parse es None []) ≡ again es l v []
     by true h q = absurd cc
     by false h q = q
 again_turns l v (edge (Tok c) n es) (t ∷ ts) s e =
-    let sides = and_true (sane n) (sane_tails es) (and_true (not (has c k.Nothing)) (sane n && sane_tails es) s).1 in
+    let sides = and_parts (sane n) (sane_tails es) (and_parts (not (has c k.Nothing)) (sane n && sane_tails es) s).1 in
     by (has c (kind t)) refl (reach_is (turned l v t ts) n (λ vs. Word t ∷ vs) ts sides.0) (λ h. again_turns l v es (t ∷ ts) sides.1 (or_second (has c (kind t)) (any_opens es (kind t)) h e))
   where
     by : (b : Bool) → has c (kind t) ≡ b → and_then (walk parse n ts) (λ p. turned l v t ts p.0 (Word t ∷ p.1)) ≡ reach n (λ vs. Word t ∷ vs) (turned l v t ts) ts

@@ -1,7 +1,7 @@
 -- What holds of the tokens of every statement.
 use Rattle.std.proofs.Common.{◌≡◌, ℕ, ◌-◌, ◌^◌, ◌<◌, ◌≤◌, Bool, true, false, not, ◌&&◌, ◌||◌, ◌==◌, cond, List, [], ◌∷◌, ◌++◌, length, drop, Option, Some, None, Result, Ok, Err, IfOk, refl, ◌∙◌, arith, length-drop}
 use Rattle.std.specs.Prelude.{nat_lt, nat_le}
-use Rattle.std.proofs.lemmas.Bool.{false≢true}
+use Rattle.std.proofs.lemmas.Bool.{and_from, false≢true}
 use Rattle.xp_lexer.specs.declared.numbers.Exponent.{Exponent}
 use Rattle.xp_lexer.specs.declared.numbers.Exponent.TheVariants as shift
 use Rattle.xp_lexer.specs.declared.token.Lexed.{Lexed}
@@ -58,9 +58,6 @@ reads_plain z k rest (Reads.comma y) = refl
 reads_plain z k rest (Reads.point y e) = refl
 reads_plain z k rest (Reads.double_colon y) = refl
 
-and_true : (a b : Bool) → a ≡ true → b ≡ true → (a && b) ≡ true
-and_true a b p q = rw (p, q) refl
-
 ended_more : (p : Placed) (ts : List Placed) (e : Placed) → is_end p.lexeme ≡ false → is_ended (ts ++ e ∷ []) ≡ true → is_ended (p ∷ (ts ++ e ∷ [])) ≡ true
 ended_more p [] e h q = rw (h, q) refl
 ended_more p (t ∷ ts) e h q = rw (h, q) refl
@@ -75,7 +72,7 @@ passes_plain : (total : ℕ) (z : Text) (ts : List Placed) (y : Text) (e : Place
 passes_plain total z ts y e h (Passes.here w) = rw h refl
 passes_plain total z ts y e h (Passes.gap w mid r us g more) = passes_plain total mid us r e h more
 passes_plain total z ts y e h (Passes.token w mid r k us rd apart more) =
-    and_true (is_plain k) (are_plain (us ++ e ∷ [])) (reads_plain w k mid rd) (passes_plain total mid us r e h more)
+    and_from (is_plain k) (are_plain (us ++ e ∷ [])) (reads_plain w k mid rd) (passes_plain total mid us r e h more)
 
 stops_shorter : (y rest : Text) (n : ℕ) → Stops y rest → length y ≤ n → (length rest ≤ n) × (0 < n → length rest < n)
 stops_shorter y rest n Stops.at_end h = (omega arith, λ some. some)

@@ -1,10 +1,11 @@
 -- What stays so while rows are added behind those that are there.
-use Rattle.std.proofs.Common.{◌≡◌, ℕ, zero, suc, List, [], ◌∷◌, ◌++◌, Bool, true, false, cond, ◌&&◌, Option, Some, None, refl, sym, get_or, arith}
+use Rattle.std.proofs.Common.{◌≡◌, ℕ, zero, suc, List, [], ◌∷◌, ◌++◌, Bool, true, false, cond, ◌&&◌, Option, Some, None, refl, sym, get_or}
 use Rattle.std.specs.Prelude.{slice_get}
 use Rattle.std.specs.List.{All}
 use Rattle.std.proofs.lemmas.List.{append-nil}
-use Rattle.std.proofs.lemmas.List.Elements.{All-append}
+use Rattle.std.proofs.lemmas.List.Elements.{All-append, All-cons, All-nil}
 use Rattle.std.proofs.Math.Bool.{beq}
+use Rattle.std.proofs.lemmas.Bool.{and_parts, and_from}
 use Rattle.xp_base.specs.declared.numbers.BodyNo.{BodyNo}
 use Rattle.xp_base.specs.declared.numbers.TypeNo.{TypeNo}
 use Rattle.xp_catalog.specs.declared.record.Record.{Record}
@@ -13,15 +14,10 @@ use Rattle.xp_catalog.specs.declared.rows.FuncRow.{FuncRow}
 use Rattle.xp_catalog.specs.declared.rows.TypeRow.{TypeRow}
 use Rattle.xp_catalog.specs.Contents.{Contents, added}
 use Rattle.xp_catalog.specs.Spelling.{is_among, pseudo_names}
-use Rattle.xp_catalog.proofs.Ascii.{and_left, and_right}
 use Rattle.xp_bodies.specs.Fits.{IsFitted, agrees, agrees_with, are_named, fits, fits_with, has_name, is_as_loose, is_named}
 use Rattle.xp_bodies.specs.Row.{Row}
 use Rattle.xp_bodies.specs.Table.{bodies}
 use Rattle.xp_loader.specs.Refusing.{fits_body}
-
-pub and_true : (a b : Bool) → a ≡ true → b ≡ true → (a && b) ≡ true
-and_true true b h k = k
-and_true false b h k = cc h
 
 -- ---- types come behind types
 
@@ -55,18 +51,18 @@ are_named-later c d more e [] [] h = refl
 are_named-later c d more e [] (name ∷ names) h = cc h
 are_named-later c d more e (type ∷ types) [] h = cc h
 are_named-later c d more e (type ∷ types) (name ∷ names) h =
-    and_true (is_named d type name) (are_named d types names)
-    (is_named-later c d more e type name (and_left (is_named c type name) (are_named c types names) h))
-    (are_named-later c d more e types names (and_right (is_named c type name) (are_named c types names) h))
+    and_from (is_named d type name) (are_named d types names)
+    (is_named-later c d more e type name (and_parts (is_named c type name) (are_named c types names) h).0)
+    (are_named-later c d more e types names (and_parts (is_named c type name) (are_named c types names) h).1)
 
 agrees-later : (c d : Contents) (more : List TypeRow) → d.types ≡ c.types ++ more → (f : FuncRow) (body : Row) → agrees c f body ≡ true → agrees d f body ≡ true
 agrees-later c d more e f body h =
     let front : Bool = beq f.variadic body.variadic && beq f.strict body.strict && is_as_loose f.volatility body.volatility in
-    let named = and_left (front && is_named c f.result body.result) (are_named c f.args body.args) h in
-    and_true (front && is_named d f.result body.result) (are_named d f.args body.args)
-    (and_true front (is_named d f.result body.result) (and_left front (is_named c f.result body.result) named)
-    (is_named-later c d more e f.result body.result (and_right front (is_named c f.result body.result) named)))
-    (are_named-later c d more e f.args body.args (and_right (front && is_named c f.result body.result) (are_named c f.args body.args) h))
+    let named = (and_parts (front && is_named c f.result body.result) (are_named c f.args body.args) h).0 in
+    and_from (front && is_named d f.result body.result) (are_named d f.args body.args)
+    (and_from front (is_named d f.result body.result) (and_parts front (is_named c f.result body.result) named).0
+    (is_named-later c d more e f.result body.result (and_parts front (is_named c f.result body.result) named).1))
+    (are_named-later c d more e f.args body.args (and_parts (front && is_named c f.result body.result) (are_named c f.args body.args) h).1)
 
 agrees_with-later : (c d : Contents) (more : List TypeRow) → d.types ≡ c.types ++ more → (f : FuncRow) (body : Option Row) → agrees_with c f body ≡ true → agrees_with d f body ≡ true
 agrees_with-later c d more e f None h = cc h
@@ -82,14 +78,10 @@ fits-later c d grown f h = fits_with-later c d grown.0 grown.1 f f.body h
 all_later : (c d : Contents) → Grown c.types d.types → IsFitted c → All (λ func. fits d func ≡ true) c.funcs
 all_later c d grown h k default within = fits-later c d grown (get_or c.funcs k default) (h k default within)
 
-one : {X : Type 0} (P : X → Type 0) (x : X) → P x → All P (x ∷ [])
-one P x p zero default within = p
-one P x p (suc k) default within = absurd (omega arith)
-
 pub IsFitted-added : (c : Contents) (r : Record) → IsFitted c → fits_body c r ≡ true → IsFitted (added c r)
 IsFitted-added c (row.Function func) h f =
     let d : Contents = added c (row.Function func) in
-    All-append (λ g. fits d g ≡ true) c.funcs (func ∷ []) (all_later c d (types-added c (row.Function func)) h) (one (λ g. fits d g ≡ true) func (fits-later c d (types-added c (row.Function func)) func f))
+    All-append (λ g. fits d g ≡ true) c.funcs (func ∷ []) (all_later c d (types-added c (row.Function func)) h) (All-cons (λ g. fits d g ≡ true) func [] (fits-later c d (types-added c (row.Function func)) func f) (All-nil (λ g. fits d g ≡ true)))
 IsFitted-added c (row.Plain name category preferred line) h f = all_later c (added c (row.Plain name category preferred line)) (types-added c (row.Plain name category preferred line)) h
 IsFitted-added c (row.Range name subtype line) h f = all_later c (added c (row.Range name subtype line)) (types-added c (row.Range name subtype line)) h
 IsFitted-added c (row.Domain name base not_null check line) h f = all_later c (added c (row.Domain name base not_null check line)) (types-added c (row.Domain name base not_null check line)) h

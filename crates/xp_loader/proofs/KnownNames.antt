@@ -6,6 +6,7 @@ use Rattle.std.specs.Str.{bytes_eq}
 use Rattle.std.proofs.lemmas.Bool.Decides.{nat_tests}
 use Rattle.std.proofs.lemmas.List.Quantifiers.{position-Some}
 use Rattle.std.proofs.lemmas.Slice.Eq.{bytes_eq-Decides}
+use Rattle.std.proofs.lemmas.Bool.{and_from}
 use Rattle.xp_base.specs.declared.numbers.TypeNo.{TypeNo}
 use Rattle.xp_catalog.specs.declared.rows.TypeRow.{TypeRow}
 use Rattle.xp_catalog.specs.Contents.{Contents, unknown_row}
@@ -13,7 +14,7 @@ use Rattle.xp_catalog.specs.Lookups.{has_type_name, operands, type_named, type_n
 use Rattle.xp_catalog.specs.Rules.{is_known}
 use Rattle.xp_catalog.specs.WellFormed.{IsBuilt, more, nothing}
 use Rattle.xp_loader.specs.Reading.{is_ascii, left_of, type_of, types_of, with_both}
-use Rattle.xp_loader.proofs.Growing.{and_true, types-added}
+use Rattle.xp_loader.proofs.Growing.{types-added}
 
 -- ---- `unknown` is the first type
 
@@ -75,7 +76,7 @@ pub types_known : (c : Contents) → HasFirst c.types → (names : List (List �
 types_known c first [] = refl
 types_known c first (name ∷ names) =
     if_both (type_of c name) (types_of c names) (λ type types. type ∷ types) (λ type. is_known c type ≡ true) (λ types. list_all (is_known c) types ≡ true) (λ types. list_all (is_known c) types ≡ true)
-    (type_known c first name) (types_known c first names) (λ type types h k. and_true (is_known c type) (list_all (is_known c) types) h k)
+    (type_known c first name) (types_known c first names) (λ type types h k. and_from (is_known c type) (list_all (is_known c) types) h k)
 
 pub left_known : (c : Contents) → HasFirst c.types → (name : List ℕ) → IfSome (left_of c name) (λ left. IfSome left (λ type. is_known c type ≡ true))
 left_known c first name =
@@ -85,5 +86,5 @@ left_known c first name =
     ]
 
 pub operands_known : (c : Contents) (left : Option TypeNo) (right : TypeNo) → IfSome left (λ type. is_known c type ≡ true) → is_known c right ≡ true → list_all (is_known c) (operands left right) ≡ true
-operands_known c None right h k = and_true (is_known c right) true k refl
-operands_known c (Some left) right h k = and_true (is_known c left) (list_all (is_known c) (right ∷ [])) h (and_true (is_known c right) true k refl)
+operands_known c None right h k = and_from (is_known c right) true k refl
+operands_known c (Some left) right h k = and_from (is_known c left) (list_all (is_known c) (right ∷ [])) h (and_from (is_known c right) true k refl)

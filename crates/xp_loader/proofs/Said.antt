@@ -3,19 +3,18 @@ use Rattle.std.proofs.Common.{◌≡◌, ℕ, List, [], ◌∷◌, ◌++◌, Boo
 use Rattle.std.specs.Prelude.{IfSome, slice_index}
 use Rattle.std.specs.Option.{option_map_or}
 use Rattle.std.specs.List.{list_all}
+use Rattle.std.proofs.lemmas.Bool.{and_from, and_parts}
 use Rattle.xp_catalog.specs.declared.record.Record.{Record}
 use Rattle.xp_catalog.specs.declared.record.Record.TheVariants as row
 use Rattle.xp_catalog.specs.declared.why.Why.{Why}
 use Rattle.xp_catalog.specs.Contents.{Contents}
 use Rattle.xp_catalog.specs.Rules.{has_function, has_good_args, has_good_base, has_good_category, has_good_name, has_known_types, is_known, is_new, keeps_rules}
 use Rattle.xp_catalog.specs.Spelling.{is_letter_of}
-use Rattle.xp_catalog.proofs.Ascii.{and_right}
 use Rattle.xp_loader.specs.declared.kind.RecordKind.{RecordKind}
 use Rattle.xp_loader.specs.declared.kind.RecordKind.TheVariants as kind
 use Rattle.xp_loader.specs.Reading.{arg_names, cast_row, function_row, is_set, kind_of, left_of, operator_row, record_as, record_of, type_of, types_of}
 use Rattle.xp_loader.specs.Records.{field}
 use Rattle.xp_loader.specs.Refusing.{Rule, first_broken, fits_body, form_rules, has_category, is_named, rules}
-use Rattle.xp_loader.proofs.Growing.{and_true}
 use Rattle.xp_loader.proofs.KnownNames.{HasFirst, if_both, if_mapped, left_known, operands_known, type_known, types_known}
 
 pub record Said (c : Contents) (form : RecordKind) (fields : List (List ℕ)) (r : Record) : Type 0 where
@@ -25,7 +24,7 @@ pub record Said (c : Contents) (form : RecordKind) (fields : List (List ℕ)) (r
 
 said : (c : Contents) → HasFirst c.types → (form : RecordKind) (line : ℕ) (fields : List (List ℕ)) → IfSome (record_as form c line fields) (Said c form fields)
 said c first kind.Plain line fields =
-    record { name = refl; category = λ h. and_right (length (field fields 2) == 1) (is_letter_of (field fields 1) (slice_index (field fields 2) 0)) h; types = refl }
+    record { name = refl; category = λ h. (and_parts (length (field fields 2) == 1) (is_letter_of (field fields 1) (slice_index (field fields 2) 0)) h).1; types = refl }
 said c first kind.Range line fields =
     if_mapped (type_of c (field fields 2)) (λ subtype. row.Range (field fields 1) subtype line) (λ type. is_known c type ≡ true) (Said c kind.Range fields)
     (type_known c first (field fields 2)) (λ type h. record { name = refl; category = λ _. refl; types = h })
@@ -34,10 +33,10 @@ said c first kind.Domain line fields =
     (type_known c first (field fields 2)) (λ type h. record { name = refl; category = λ _. refl; types = h })
 said c first kind.Cast line fields =
     if_both (type_of c (field fields 1)) (type_of c (field fields 2)) (cast_row c line fields) (λ type. is_known c type ≡ true) (λ type. is_known c type ≡ true) (Said c kind.Cast fields)
-    (type_known c first (field fields 1)) (type_known c first (field fields 2)) (λ from to h k. record { name = refl; category = λ _. refl; types = and_true (is_known c from) (is_known c to) h k })
+    (type_known c first (field fields 1)) (type_known c first (field fields 2)) (λ from to h k. record { name = refl; category = λ _. refl; types = and_from (is_known c from) (is_known c to) h k })
 said c first kind.Function line fields =
     if_both (types_of c (arg_names (field fields 2))) (type_of c (field fields 4)) (function_row line fields) (λ types. list_all (is_known c) types ≡ true) (λ type. is_known c type ≡ true) (Said c kind.Function fields)
-    (types_known c first (arg_names (field fields 2))) (type_known c first (field fields 4)) (λ args result h k. record { name = refl; category = λ _. refl; types = and_true (list_all (is_known c) args) (is_known c result) h k })
+    (types_known c first (arg_names (field fields 2))) (type_known c first (field fields 4)) (λ args result h k. record { name = refl; category = λ _. refl; types = and_from (list_all (is_known c) args) (is_known c result) h k })
 said c first kind.Operator line fields =
     if_both (left_of c (field fields 2)) (type_of c (field fields 3)) (operator_row c line fields) (λ left. IfSome left (λ type. is_known c type ≡ true)) (λ type. is_known c type ≡ true) (Said c kind.Operator fields)
     (left_known c first (field fields 2)) (type_known c first (field fields 3)) (λ left right h k. record { name = refl; category = λ _. refl; types = operands_known c left right h k })
@@ -104,8 +103,8 @@ kept_with c first line fields r h said (Some form) e =
     let arguments = on_some (has_good_args c) (record_of c line fields) r said later.1.1.0 in
     let function = on_some (has_function c) (record_of c line fields) r said later.1.1.1.1.0 in
     let body = on_some (fits_body c) (record_of c line fields) r said later.1.1.1.1.1.0 in (
-      and_true _ (has_function c r) (and_true _ (has_good_args c r) (and_true _ (has_good_base c r) (and_true _ (is_new c r) (and_true _ (has_known_types c r)
-          (and_true (has_good_name r) (has_good_category r) name category) is.types) new) base) arguments) function,
+      and_from _ (has_function c r) (and_from _ (has_good_args c r) (and_from _ (has_good_base c r) (and_from _ (is_new c r) (and_from _ (has_known_types c r)
+          (and_from (has_good_name r) (has_good_category r) name category) is.types) new) base) arguments) function,
       body,
     )
 

@@ -365,7 +365,16 @@ fn bodies_and_functions_are_there_and_fit(rt: HostRuntime) -> Result<(), Fail> {
             "function,f,int4 int4,f,int4,immutable,t,add_int4_int4",
             None,
         ),
+        ("function,f,int4 int4,f,int4,stable,t,add_int4_int4", None),
         ("function,f,int4 int4,f,int4,volatile,t,add_int4_int4", None),
+        (
+            "function,f,int4 text,f,int4,immutable,t,add_int4_int4",
+            Some(Why::BodyMismatch),
+        ),
+        (
+            "function,f,int4,f,int4,immutable,t,add_int4_int4",
+            Some(Why::BodyMismatch),
+        ),
         (
             "function,f,int4 int4,f,int8,immutable,t,add_int4_int4",
             Some(Why::BodyMismatch),

@@ -3,8 +3,10 @@
 
 mod candidates;
 mod exact;
+mod laws;
 mod pick;
 
+pub use laws::{a_candidate_is_picked, other_operators_change_nothing};
 pub use pick::pick_operator;
 pub use xp_candidates::Pick;
 

@@ -1,7 +1,7 @@
 -- What is read of operators that group from the left.
-use Rattle.std.proofs.Common.{◌≡◌, ◌≤◌, Bool, true, false, ◌||◌, List, [], ◌∷◌, length, Option, Some, None, Ok, Err, refl, ap, subst, ◌∙◌, if◌then◌else◌, arith}
+use Rattle.std.proofs.Common.{◌≡◌, ◌≤◌, Bool, true, false, ◌||◌, List, [], ◌∷◌, length, Option, Some, None, Ok, Err, refl, ap, subst, ◌∙◌, if◌then◌else◌}
+use Rattle.std.proofs.Math.Bool.{or-false}
 use Rattle.xp_lexer.specs.declared.token.Token.{Token}
-use Rattle.xp_grammar.specs.declared.kind.Kind.{Kind}
 use Rattle.xp_grammar.specs.declared.kind.Kind.TheVariants as k
 use Rattle.xp_grammar.specs.declared.kind.Class.TheVariants.{Only}
 use Rattle.xp_grammar.specs.declared.ast.Ast.{Ast}
@@ -13,7 +13,7 @@ use Rattle.xp_grammar.proofs.Fronts.{left, if_left}
 use Rattle.xp_grammar.proofs.Turns.{parse_left}
 use Rattle.xp_grammar.proofs.Straight.{reach, again, parse_straight, more_straight}
 use Rattle.xp_parser.specs.Parts.{chain_part, right_part, prefix_then, other_part}
-use Rattle.xp_parser.proofs.Steps.{after_same, expect_same}
+use Rattle.xp_parser.proofs.Steps.{after_same, expect_same, same_flip}
 
 pub or_is : (ts : List Token) → parse l.E0 ts ≡ (parse l.E1 >>= (λ v. more l.E0 v)) ts
 unfolding reach more
@@ -65,9 +65,6 @@ right_then f ts = by (first l.P (ahead ts)) (parse l.P ts) (parse l.E7 ts)
     by true p q = refl
     by false p q = refl
 
-same_flip : (a b : Kind) → same a b || false ≡ same b a
-same_flip a b = grind arith
-
 prefix_is : (ts : List Token) → parse l.P ts ≡ (expect (Only k.Other) >>= prefix_then) ts
 unfolding reach onward prefix_then
 prefix_is ts = parse_straight l.P ts ∙ expect_same (Only k.Other) _ _ ts (λ t r. right_then (λ v. pure (prefix_of (Word t ∷ v ∷ []))) r)
@@ -75,7 +72,7 @@ prefix_is ts = parse_straight l.P ts ∙ expect_same (Only k.Other) _ _ ts (λ t
 pub right_is : (ts : List Token) → right_part ts ≡ after (Only k.Other) prefix_then (parse l.E7) ts
 unfolding right_part first
 right_is [] = refl
-right_is (t ∷ ts) = by (same (kind t) k.Other || false) (same k.Other (kind t)) (same_flip (kind t) k.Other) (parse l.P (t ∷ ts)) (parse l.E7) (prefix_is (t ∷ ts))
+right_is (t ∷ ts) = by (same (kind t) k.Other || false) (same k.Other (kind t)) (or-false (same (kind t) k.Other) ∙ same_flip (kind t) k.Other) (parse l.P (t ∷ ts)) (parse l.E7) (prefix_is (t ∷ ts))
   where
     by : (b c : Bool) → b ≡ c → (p : Outcome Value) (q : Parser Value) → p ≡ and_then (if c then Ok (t, ts) else Err (length (t ∷ ts))) prefix_then
         → (if b then p else q (t ∷ ts)) ≡ and_then (if◌then◌else◌ {A = Outcome (Option Token)} c (Ok (Some t, ts)) (Ok (None, t ∷ ts))) (taken prefix_then q)

@@ -1,16 +1,13 @@
 -- The tokens of a statement end in End.
-use Rattle.std.proofs.Common.{◌≡◌, Bool, true, false, not, ◌&&◌, List, [], ◌∷◌}
+use Rattle.std.proofs.Common.{◌≡◌, true, not, List, [], ◌∷◌}
+use Rattle.std.proofs.lemmas.Bool.{and_parts}
 use Rattle.xp_lexer.specs.declared.token.Token.{Token}
 use Rattle.xp_lexer.specs.Cutting.{is_end}
 use Rattle.xp_lexer.specs.Ended.{is_ended}
 use Rattle.xp_lexer.specs.Lexemes.{seen, all_placed}
 use Rattle.xp_parser.specs.Parses.{ends_in_end}
 
-and_right : (a b : Bool) → (a && b) ≡ true → b ≡ true
-and_right true b h = h
-and_right false b h = absurd cc
-
 pub ended_ends : (ts : List Token) → is_ended (all_placed ts) ≡ true → ends_in_end ts ≡ true
 ended_ends [] h = h
 ended_ends (t ∷ []) h = h
-ended_ends (t ∷ u ∷ ts) h = ended_ends (u ∷ ts) (and_right (not (is_end (seen t.kind))) (is_ended (all_placed (u ∷ ts))) h)
+ended_ends (t ∷ u ∷ ts) h = ended_ends (u ∷ ts) (and_parts (not (is_end (seen t.kind))) (is_ended (all_placed (u ∷ ts))) h).1

@@ -1,7 +1,6 @@
 -- What is read of signs, casts and subscripts.
 use Rattle.std.proofs.Common.{◌≡◌, ℕ, zero, suc, ◌+◌, ◌-◌, ◌≤◌, ◌<◌, ◌==◌, Bool, true, false, ◌&&◌, List, [], ◌∷◌, length, take, Option, Some, None, Ok, Err, refl, sym, ap, subst, ◌∙◌, if◌then◌else◌, arith}
 use Rattle.xp_lexer.specs.declared.token.Token.{Token}
-use Rattle.xp_grammar.specs.declared.kind.Kind.{Kind}
 use Rattle.xp_grammar.specs.declared.kind.Kind.TheVariants as k
 use Rattle.xp_grammar.specs.declared.kind.Class.{Class}
 use Rattle.xp_grammar.specs.declared.kind.Class.TheVariants.{Only}
@@ -16,7 +15,7 @@ use Rattle.xp_grammar.proofs.Straight.{reach, again, parse_straight, more_straig
 use Rattle.xp_parser.specs.declared.operands.Operand.{Operand}
 use Rattle.xp_parser.specs.declared.operands.Operand.TheVariants as o
 use Rattle.xp_parser.specs.Parts.{operand, signed_part, cast_part, lone, index_part, indexed, bracket_part, more_part}
-use Rattle.xp_parser.proofs.Steps.{after_same, pure_then}
+use Rattle.xp_parser.proofs.Steps.{after_same, pure_then, same_flip}
 
 pub signed_is : (ts : List Token) → parse l.E10 ts ≡ signed_part ts
 unfolding reach onward signed_part
@@ -33,9 +32,6 @@ equal_true m n e = grind arith
 
 equal_false : (m n : ℕ) → m < n → n == m ≡ false
 equal_false m n e = grind arith
-
-same_flip : (a b : Kind) → same a b ≡ same b a
-same_flip a b = grind arith
 
 and_is : (a b c : Bool) → a ≡ b → c ≡ true → a ≡ b && c
 and_is a b c h e = grind arith

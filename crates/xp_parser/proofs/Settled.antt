@@ -6,15 +6,15 @@ use Rattle.xp_base.specs.declared.limits.TheConstants.{DEPTH_LIMIT}
 use Rattle.xp_lexer.specs.declared.token.Token.{Token}
 use Rattle.xp_grammar.specs.Table.{Value, Stated}
 use Rattle.xp_grammar.specs.Reads.{IsStatement, IsFront, Stuck, Fault, read}
-use Rattle.xp_grammar.proofs.Continued.{cut, same_head}
+use Rattle.xp_grammar.proofs.Complete.{same_head}
+use Rattle.xp_grammar.proofs.Continued.{cut}
 use Rattle.xp_grammar.proofs.Exact.{derived_is_read, read_is_derived, err_is_fault}
 use Rattle.xp_grammar.proofs.Prefix.{begun, fault_is_err}
 use Rattle.xp_parser.specs.declared.fault.ParseFault.{ParseFault}
 use Rattle.xp_parser.specs.declared.fault.ParseFault.TheVariants.{Syntax, TooDeep, Memory}
-use Rattle.xp_parser.specs.Depth.{depth, first_deep, start}
+use Rattle.xp_parser.specs.Depth.{depth, first_deep}
 use Rattle.xp_parser.specs.Parses.{Answer, Answers, IsAnswer, IsRight, words, start_at, settled, settled_deep, parsed_by, parsed}
-use Rattle.xp_grammar.specs.declared.kind.Kind.TheVariants as k
-use Rattle.xp_parser.proofs.Deep.{Deep, first_deep_is, first_deep_none, none_first_deep, some_first_deep, shorter_shallow}
+use Rattle.xp_parser.proofs.Deep.{first_deep_is, first_deep_none, none_first_deep, some_first_deep, shorter_shallow}
 
 -- the list up to and with a token
 cut_at : (ts before after : List Token) (t : Token) (i : ℕ) → ts ≡ before ++ t ∷ after → i ≡ length before → take (i + 1) ts ≡ before ++ t ∷ []

@@ -1,10 +1,11 @@
 -- Reading in steps: what is left, and steps that are alike.
-use Rattle.std.proofs.Common.{◌≡◌, Bool, true, false, List, [], ◌∷◌, Option, Some, None, Ok, Err, refl, ap, ◌∙◌, if◌then◌else◌}
+use Rattle.std.proofs.Common.{◌≡◌, Bool, true, false, List, [], ◌∷◌, Option, Some, None, Ok, Err, refl, ap, ◌∙◌, if◌then◌else◌, arith}
 use denote.Ref.{Bor}
 use Rattle.xp_lexer.specs.declared.token.Token.{Token}
 use Rattle.xp_grammar.specs.declared.kind.Class.{Class}
 use Rattle.xp_grammar.specs.declared.ast.Ast.{Ast}
-use Rattle.xp_grammar.specs.Kinds.{kind, has}
+use Rattle.xp_grammar.specs.declared.kind.Kind.{Kind}
+use Rattle.xp_grammar.specs.Kinds.{kind, has, same}
 use Rattle.xp_grammar.specs.Table.{Level, Value, Word, Tree}
 use Rattle.xp_grammar.specs.Machine.{Outcome, Parser, and_then, ◌>>=◌, pure, expect, eat, taken, after, parse, more}
 use Rattle.xp_parser.specs.Parts.{chain_part}
@@ -47,3 +48,7 @@ chain_turn c inner outer join a b e t whole ts us r same law eaten read built =
     ∙ ap (λ z. and_then z (taken (λ t'. parse inner >>= (λ w. more outer (join (Tree a) (Word t' ∷ w ∷ [])))) (pure (Tree a)))) eaten
     ∙ ap (λ z. and_then z (λ w. more outer (join (Tree a) (Word t ∷ w ∷ [])))) read
     ∙ ap (λ z. more outer z r) built
+
+-- a kind is another where that is this
+pub same_flip : (a b : Kind) → same a b ≡ same b a
+same_flip a b = grind arith

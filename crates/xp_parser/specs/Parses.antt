@@ -1,5 +1,5 @@
 -- What a list of tokens that ends in End is: a statement, or the first fault in it (manual 4.1.6, 4.2; the depth is this project's own).
-use Rattle.std.specs.Prelude.{◌≡◌, ℕ, zero, suc, ◌+◌, ◌-◌, ◌≤◌, ◌<◌, Bool, true, false, List, [], ◌∷◌, ◌++◌, length, take, slice_get, Option, Some, None, Result, Ok, Err}
+use Rattle.std.specs.Prelude.{◌≡◌, ℕ, zero, suc, ◌+◌, ◌-◌, ◌≤◌, ◌<◌, Bool, false, List, [], ◌∷◌, ◌++◌, length, take, slice_get, Option, Some, None, Result, Ok, Err}
 use Rattle.std.specs.Option.{option_map_or}
 use Rattle.xp_base.specs.declared.limits.TheConstants.{DEPTH_LIMIT}
 use Rattle.xp_lexer.specs.declared.token.Token.{Token}

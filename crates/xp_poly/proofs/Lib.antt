@@ -1,3 +1,4 @@
 pub mod Lists
 pub mod Ranges
 pub mod Written
+pub mod Others

@@ -1,8 +1,8 @@
 -- Two lists side by side, and lists that grow by what a function gives.
-use Rattle.std.proofs.Common.{◌≡◌, ℕ, zero, suc, arith, subst, map, set, slice_get, take, ◌+◌, ◌<◌, List, [], ◌∷◌, ◌++◌, All, IfSome, Option, Some, None, add-one, append-nil, append_assoc, ap, drop, drop-cons, filter_map, get_or, length, option_to_list, refl, sym, ◌∙◌, zip}
+use Rattle.std.proofs.Common.{◌≡◌, ℕ, subst, map, set, slice_get, take, ◌+◌, ◌<◌, List, [], ◌∷◌, ◌++◌, All, IfSome, Option, Some, None, add-one, append-nil, append_assoc, ap, drop, drop-cons, filter_map, get_or, length, option_to_list, refl, sym, ◌∙◌, zip}
 use Rattle.std.proofs.lemmas.List.{take_more_set}
 use Rattle.std.proofs.lemmas.Option.{get_or_from_slice_get, slice_get_within}
-use Rattle.std.proofs.lemmas.List.Elements.{All-append}
+use Rattle.std.proofs.lemmas.List.Elements.{All-append, All-cons, All-nil}
 
 -- the items from a place on begin with the item at that place
 pub rest_from : {X : Type 0} (xs : List X) (p : ℕ) (d : X) → p < length xs → drop p xs ≡ get_or xs p d ∷ drop (p + 1) xs
@@ -24,13 +24,9 @@ grown_by h front x xs (Some y) gives = rw (sym gives, append_assoc front (y ∷ 
 pub grown : {X Y : Type 0} (h : X → Option Y) (front new : List Y) (item : Option Y) (x : X) (xs : List X) → new ≡ front ++ option_to_list item → item ≡ h x → new ++ filter_map h xs ≡ front ++ filter_map h (x ∷ xs)
 grown h front new item x xs is gives = ap (λ list. list ++ filter_map h xs) is ∙ grown_by h front x xs item gives
 
-all_one : {X : Type 0} (P : X → Type 0) (x : X) → P x → All P (x ∷ [])
-all_one P x is zero d under = is
-all_one P x is (suc k) d under = absurd (omega arith)
-
 all_by : {X : Type 0} (P : X → Type 0) (front : List X) (item : Option X) → All P front → IfSome item P → All P (front ++ option_to_list item)
 all_by P front None all one = subst (All P) (sym (append-nil front)) all
-all_by P front (Some x) all one = All-append P front (x ∷ []) all (all_one P x one)
+all_by P front (Some x) all one = All-append P front (x ∷ []) all (All-cons P x [] one (All-nil P))
 
 -- what holds of each in front and of the item holds of all
 pub all_grown : {X : Type 0} (P : X → Type 0) (front new : List X) (item : Option X) → new ≡ front ++ option_to_list item → All P front → IfSome item P → All P new

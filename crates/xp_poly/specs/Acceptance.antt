@@ -5,13 +5,13 @@ use Rattle.std.specs.List.{list_all, list_any}
 use Rattle.xp_base.specs.declared.numbers.TypeNo.{TypeNo}
 use Rattle.xp_catalog.specs.Contents.{Contents}
 use Rattle.xp_catalog.specs.Lookups.{type_named}
-use Rattle.xp_types.specs.Readers.{array_of, base, is_same, unknown}
+use Rattle.xp_types.specs.Readers.{array_of, base, is_array, is_same, unknown}
 use Rattle.xp_types.specs.Paths.{converts}
 use Rattle.xp_types.specs.Common.{common}
 use Rattle.xp_types.specs.declared.common_type.CommonType.{CommonType}
 use Rattle.xp_types.specs.declared.common_type.CommonType.TheVariants as common_is
 use Rattle.xp_poly.specs.Roles.{is_of, role}
-use Rattle.xp_poly.specs.Members.{counts_as, given, is_array, is_of_range, range_given}
+use Rattle.xp_poly.specs.Members.{counts_as, given, is_of_range, range_given}
 use Rattle.xp_poly.specs.declared.roles.Family.{Family}
 use Rattle.xp_poly.specs.declared.roles.Family.TheVariants.{First, Second}
 use Rattle.xp_poly.specs.declared.roles.Form.{Form}

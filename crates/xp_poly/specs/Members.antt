@@ -1,5 +1,5 @@
 -- The known inputs at the positions of a family, and what they count as (manual 38.2.5).
-use Rattle.std.specs.Prelude.{All, List, Bool, true, false, cond, Option, Some, None, filter_map, find, is_some, option_map}
+use Rattle.std.specs.Prelude.{All, List, Bool, true, false, cond, Option, Some, None, filter_map, find, option_map}
 use Rattle.std.specs.Option.{option_map_or}
 use Rattle.xp_base.specs.declared.numbers.TypeNo.{TypeNo}
 use Rattle.xp_catalog.specs.Contents.{Contents}
@@ -46,9 +46,6 @@ range_given c inputs = option_map (λ given. base c given.input) (find (λ given
 -- where a range is declared, the input is of that range type
 abbrev pub is_of_range : Contents → Option TypeNo → KnownInput → Bool
 is_of_range c range given = cond (is_range_form given.form) (option_map_or (is_same (base c given.input)) range false) true
-
-abbrev pub is_array : Contents → TypeNo → Bool
-is_array c type = is_some (element c type)
 
 -- their numbers are those of types
 abbrev pub AreKnownTypes : Contents → List KnownInput → Type 0

@@ -1,7 +1,7 @@
 //! The known inputs at the positions of a family (manual 38.2.5).
 ghost use Rattle.std.specs.Prelude.{◌≡◌, ◌<◌, ◌≤◌, All, IfSome, find, is_some, length, take, zip};
 ghost use Rattle.xp_types.specs.Within.{AreTypes, IsType};
-ghost use Rattle.xp_poly.specs.Members.{AreKnownTypes, counts_as, counts_by, given, given_at, given_by, is_array, is_of_range, is_range_form, range_given};
+ghost use Rattle.xp_poly.specs.Members.{AreKnownTypes, counts_as, counts_by, given, given_at, given_by, is_of_range, is_range_form, range_given};
 
 use crate::roles::{Family, Form, Role, declared_role};
 use crate::room::put;
@@ -120,11 +120,4 @@ pub fn is_of_range(c: &Catalog, range: Option<TypeNo>, given: KnownInput) -> boo
         Some(range) => !is_range_form(given.form) || base(c, given.input).0 == range.0,
         None => !is_range_form(given.form),
     }
-}
-
-pub fn is_array(c: &Catalog, t: TypeNo) -> bool
-    requires { IsType c.now t }
-    ensures { result ≡ is_array c.now t }
-{
-    element(c, t).is_some()
 }

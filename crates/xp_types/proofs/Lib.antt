@@ -5,3 +5,4 @@ pub mod Considered
 pub mod Bases
 pub mod Converting
 pub mod MoreCasts
+pub mod Others

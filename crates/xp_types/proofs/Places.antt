@@ -1,6 +1,8 @@
 -- Rows by their places in a list that others stand behind, and first places.
-use Rattle.std.proofs.Common.{◌≡◌, ℕ, zero, suc, ◌+◌, ◌<◌, ◌≤◌, List, [], ◌∷◌, ◌++◌, Bool, true, false, cond, ltb, length, get_or, refl, sym, ◌∙◌, ap, arith, Some, None, slice_get, position}
+use Rattle.std.proofs.Common.{◌≡◌, ℕ, zero, suc, ◌+◌, ◌<◌, ◌≤◌, List, [], ◌∷◌, ◌++◌, Bool, true, false, cond, eqb, ltb, length, length-append, get_or, refl, sym, ◌∙◌, ap, arith, Option, Some, None, slice_get, position}
 use Rattle.std.specs.List.{position_or_len}
+use Rattle.std.proofs.lemmas.List.Folds.{position_or_len_push}
+use Rattle.std.proofs.lemmas.List.Quantifiers.{position-Some}
 use Rattle.std.proofs.lemmas.Option.{get_or_from_slice_get, slice_get-get_or, slice_get_within}
 
 pub slice_get_old : {X : Type 0} (xs ys : List X) (k : ℕ) → k < length xs → slice_get (xs ++ ys) k ≡ slice_get xs k
@@ -78,3 +80,36 @@ place_found test xs i at = grind arith
 
 pub place_missing : {X : Type 0} (test : X → Bool) (xs : List X) → position test xs ≡ None → length xs ≤ position_or_len test xs
 place_missing test xs at = grind arith
+
+-- one more that fails changes nothing
+pub position_push : {X : Type 0} (test : X → Bool) (xs : List X) (y : X) → test y ≡ false → position test (xs ++ y ∷ []) ≡ position test xs
+position_push test xs y fails = go (position test xs) refl
+  where
+    pushed : position_or_len test (xs ++ y ∷ []) ≡ cond (eqb (position_or_len test xs) (length xs)) (length xs + 1) (position_or_len test xs)
+    pushed = rw (position_or_len_push test xs y, fails) refl
+
+    long : length (xs ++ y ∷ []) ≡ length xs + 1
+    long = length-append xs (y ∷ [])
+
+    past : (b : Bool) → eqb (position_or_len test xs) (length xs) ≡ b → length xs ≤ position_or_len test xs → length xs + 1 ≤ position_or_len test (xs ++ y ∷ [])
+    past true is none = let at : position_or_len test (xs ++ y ∷ []) ≡ length xs + 1 = pushed ∙ rw is refl in omega (arith, at)
+    past false is none = let at : position_or_len test (xs ++ y ∷ []) ≡ position_or_len test xs = pushed ∙ rw is refl in grind (arith, at, is, none)
+
+    go : (o : Option ℕ) → position test xs ≡ o → position test (xs ++ y ∷ []) ≡ position test xs
+    go None at =
+        let beyond : length xs + 1 ≤ position_or_len test (xs ++ y ∷ []) = past (eqb (position_or_len test xs) (length xs)) refl (place_missing test xs at) in
+        let lt : ltb (position_or_len test (xs ++ y ∷ [])) (length (xs ++ y ∷ [])) ≡ false = grind (arith, beyond, long) in
+        rw lt (sym at)
+    go (Some i) at =
+        let found = place_found test xs i at in
+        let ne : eqb (position_or_len test xs) (length xs) ≡ false = grind (arith, found.0, found.1) in
+        let here : position_or_len test (xs ++ y ∷ []) ≡ i = pushed ∙ rw ne found.0 in
+        let lt : ltb i (length (xs ++ y ∷ [])) ≡ true = grind (arith, found.1, long) in
+        position_by test (xs ++ y ∷ []) i here ∙ rw lt (sym at)
+
+-- the test passes at the place that is found
+pub place_holds : {X : Type 0} (test : X → Bool) (xs : List X) (i : ℕ) → position test xs ≡ Some i → (x : X) × (slice_get xs i ≡ Some x) × (test x ≡ true)
+place_holds test [] i at = cc
+place_holds test (x ∷ xs) i at =
+    let found = position-Some test (x ∷ xs) i x at in
+    (get_or (x ∷ xs) i x, slice_get-get_or (x ∷ xs) i x found.0, found.1)

@@ -1,13 +1,10 @@
--- A catalogue with one more cast, which may be between other types (manual, CREATE CAST).
-use Rattle.std.specs.Prelude.{◌≡◌, [], ◌∷◌, ◌++◌, Bool, false, Option, Some}
+-- Casts between other types (manual, CREATE CAST).
+use Rattle.std.specs.Prelude.{◌≡◌, Bool, false, Option, Some}
 use Rattle.xp_base.specs.declared.numbers.TypeNo.{TypeNo}
 use Rattle.xp_catalog.specs.declared.rows.CastRow.{CastRow}
 use Rattle.xp_catalog.specs.Contents.{Contents}
 use Rattle.xp_catalog.specs.Lookups.{is_between}
 use Rattle.xp_types.specs.Readers.{base, element}
-
-abbrev pub with_cast : Contents → CastRow → Contents
-with_cast c cast = record c { casts = c.casts ++ cast ∷ [] }
 
 abbrev pub is_between_elements : Contents → CastRow → Option TypeNo → Option TypeNo → Bool
 is_between_elements c cast (Some s) (Some t) = is_between (base c s) (base c t) cast

@@ -1,5 +1,5 @@
 -- What is read off a type: the type that it counts as, its category, its element, its array type, its subtype (manual 8.15, 8.17, 8.18, 10.1, 53.64).
-use Rattle.std.specs.Prelude.{ℕ, Bool, true, false, ◌==◌, ◌&&◌, not, Option, Some, None, option_map, slice_get}
+use Rattle.std.specs.Prelude.{ℕ, Bool, true, false, ◌==◌, ◌&&◌, not, Option, Some, None, is_some, option_map, slice_get}
 use Rattle.std.specs.Option.{option_map_or}
 use Rattle.std.specs.List.{position}
 use Rattle.xp_base.specs.declared.numbers.TypeNo.{TypeNo}
@@ -41,6 +41,9 @@ element_by _ = None
 -- the type of an array's elements; a domain over an array is no array
 abbrev pub element : Contents → TypeNo → Option TypeNo
 element c type = element_by (kind_of c type)
+
+abbrev pub is_array : Contents → TypeNo → Bool
+is_array c type = is_some (element c type)
 
 abbrev pub subtype_by : Contents → TypeKind → Option TypeNo
 subtype_by c (kind.Range number) = option_map (λ range. range.subtype) (slice_get c.ranges number.0)

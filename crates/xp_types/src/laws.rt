@@ -1,12 +1,13 @@
 //! What follows from the definition of paths alone.
 ghost use Rattle.std.specs.Prelude.{◌≡◌, IfSome, None, true, false};
+ghost use Rattle.xp_catalog.specs.Contents.{added};
 ghost use Rattle.xp_types.specs.Readers.{element, is_known};
 ghost use Rattle.xp_types.specs.Paths.{path};
-ghost use Rattle.xp_types.specs.MoreCasts.{IsElsewhere, with_cast};
+ghost use Rattle.xp_types.specs.MoreCasts.{IsElsewhere};
 ghost use Rattle.xp_types.specs.declared.paths.PathKind.TheVariants.{Literal, Same};
 
 use xp_base::TypeNo;
-use xp_catalog::{CastRow, Catalog, Context};
+use xp_catalog::{CastRow, Catalog, Context, Record};
 
 /// A literal is read as whatever type is wanted, and a known type has the path to itself.
 pub fn literal_and_same(c: &Catalog, s: TypeNo, t: TypeNo, context: Context)
@@ -23,7 +24,7 @@ pub fn other_casts_change_nothing(
     context: Context,
 )
     requires { IsElsewhere c.now cast s t }
-    ensures { path (with_cast c.now cast) s t context ≡ path c.now s t context }
+    ensures { path (added c.now (Record.Cast cast)) s t context ≡ path c.now s t context }
 {}
 
 /// The elements of arrays are no arrays themselves.

@@ -9,4 +9,6 @@ mod readers;
 pub use common_type::{CommonType, common};
 pub use laws::{elements_are_no_arrays, literal_and_same, other_casts_change_nothing};
 pub use paths::{PathKind, converts, path};
-pub use readers::{UNKNOWN, array_of, base, category, element, is_known, preferred, subtype};
+pub use readers::{
+    UNKNOWN, array_of, base, category, element, is_array, is_known, preferred, subtype,
+};

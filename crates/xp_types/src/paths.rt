@@ -1,6 +1,7 @@
 //! The path from one type to another (manual 10.1, 10.4; CREATE CAST).
 ghost use Rattle.std.specs.Prelude.{◌≡◌, ◌<◌, IfSome, length, option_map};
 ghost use Rattle.xp_types.specs.Readers.{base, element, is_same};
+ghost use Rattle.xp_types.specs.Within.{HasCast};
 ghost use Rattle.xp_types.specs.Paths.{allowed_at, by_cast, converts, elements_convert, first_rule, is_path, is_string, path, path_of_bases, serves, without_cast};
 
 use crate::readers::{base, category, element, is_domain, is_known};
@@ -56,7 +57,8 @@ fn is_string(c: &Catalog, t: TypeNo) -> bool
 
 /// The path that the cast between the types decides, where there is one.
 fn by_cast(c: &Catalog, wanted: Context, from: TypeNo, to: TypeNo) -> Option<PathKind>
-    ensures { result ≡ by_cast c.now wanted from to }
+    ensures value { result ≡ by_cast c.now wanted from to }
+    ensures within { IfSome result (HasCast c.now) }
 {
     let row = c.cast_between(from, to)?;
     if serves(c.cast_row(row).context, wanted) {
@@ -76,7 +78,8 @@ fn without_cast(
 ) -> PathKind
     requires from { from.0 < length c.now.types }
     requires to { to.0 < length c.now.types }
-    ensures { result ≡ without_cast c.now wanted from to by_elements }
+    ensures value { result ≡ without_cast c.now wanted from to by_elements }
+    ensures within { HasCast c.now result }
 {
     if by_elements {
         PathKind::Elements
@@ -98,7 +101,8 @@ fn path_of_bases(
 ) -> PathKind
     requires from { from.0 < length c.now.types }
     requires to { to.0 < length c.now.types }
-    ensures { result ≡ path_of_bases c.now wanted from to by_elements }
+    ensures value { result ≡ path_of_bases c.now wanted from to by_elements }
+    ensures within { HasCast c.now result }
 {
     match by_cast(c, wanted, from, to) {
         Some(path) => path,
@@ -110,7 +114,8 @@ fn path_of_bases(
 fn first_rule(c: &Catalog, wanted: Context, s: TypeNo, t: TypeNo, by_elements: bool) -> PathKind
     requires s { s.0 < length c.now.types }
     requires t { t.0 < length c.now.types }
-    ensures { result ≡ first_rule c.now wanted s t by_elements }
+    ensures value { result ≡ first_rule c.now wanted s t by_elements }
+    ensures within { HasCast c.now result }
 {
     if !is_known(s) {
         return PathKind::Literal;
@@ -146,6 +151,7 @@ pub fn path(c: &Catalog, s: TypeNo, t: TypeNo, context: Context) -> PathKind
     requires s { s.0 < length c.now.types }
     requires t { t.0 < length c.now.types }
     ensures value { result ≡ path c.now s t context }
+    ensures within { HasCast c.now result }
 {
     let from = element(c, base(c, s));
     let to = element(c, base(c, t));

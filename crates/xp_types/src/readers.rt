@@ -1,7 +1,7 @@
 //! What is read off a type (manual 8.15, 8.17, 8.18, 10.1).
 ghost use Rattle.std.specs.Prelude.{◌≡◌, ◌<◌, IfSome, Some, false, is_some, length};
 ghost use Rattle.std.specs.Option.{option_map_or};
-ghost use Rattle.xp_types.specs.Readers.{array_of, base, category, element, has_array, is_known, is_same, preferred, subtype};
+ghost use Rattle.xp_types.specs.Readers.{array_of, base, category, element, has_array, is_array, is_known, is_same, preferred, subtype};
 ghost use Rattle.xp_types.specs.Paths.{is_domain};
 
 use xp_base::TypeNo;
@@ -65,6 +65,14 @@ pub fn element(c: &Catalog, t: TypeNo) -> Option<TypeNo>
         TypeKind::Array { element } => Some(element),
         _ => None,
     }
+}
+
+/// Whether the type is an array type. A domain over one isn't.
+pub fn is_array(c: &Catalog, t: TypeNo) -> bool
+    requires { t.0 < length c.now.types }
+    ensures { result ≡ is_array c.now t }
+{
+    element(c, t).is_some()
 }
 
 /// The type of a range's bounds.

@@ -1,4 +1,4 @@
-use Rattle.std.proofs.Common.{◌≡◌, ◌∙◌, ap, sym, subst}
+use Rattle.std.proofs.Common.{◌∙◌, ap, sym, subst}
 use Rattle.xp_overload.specs.Places.{kept}
 use Rattle.xp_candidates.specs.Bound.{AcceptsOne}
 use Rattle.xp_candidates.specs.Marked.{first_two}

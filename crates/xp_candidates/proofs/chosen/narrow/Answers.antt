@@ -1,4 +1,4 @@
-use Rattle.std.proofs.Common.{◌≡◌, ◌<◌, length, map, ◌∙◌, sym, ap}
+use Rattle.std.proofs.Common.{◌<◌, length, map, ◌∙◌, sym, ap}
 use Rattle.xp_candidates.specs.Accepted.{takes_as}
 use Rattle.xp_candidates.proofs.Found.{known_type-All}
 use Rattle.xp_candidates.proofs.Places.{have_slots, narrowed-of}

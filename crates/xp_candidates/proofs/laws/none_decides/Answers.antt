@@ -1,4 +1,4 @@
-use Rattle.std.proofs.Common.{[], ◌∷◌, ◌∙◌, ap}
+use Rattle.std.proofs.Common.{[], ◌∙◌, ap}
 use Rattle.xp_candidates.specs.Known.{bases}
 use Rattle.xp_candidates.specs.Chosen.{narrowed, outcome}
 use Rattle.xp_candidates.specs.Marked.{first_two}

@@ -1,4 +1,4 @@
-use Rattle.std.proofs.Common.{◌≡◌, ◌∙◌, ap, drop, ◌∷◌, ◌+◌, ◌≤◌, sym, arith, reverse}
+use Rattle.std.proofs.Common.{◌∙◌, ap, ◌≤◌, arith, reverse}
 use Rattle.xp_base.proofs.Lists.{drop_one}
 use Rattle.xp_base.specs.declared.limits.TheConstants.{DEPTH_LIMIT}
 use Rattle.xp_parser.specs.Depth.{deep_from, first_deep, depth_of, seen}

@@ -1,0 +1,5 @@
+use Rattle.xp_func.proofs.Named.{picked-listed}
+use Rattle.xp_func.proofs.laws.a_candidate_is_picked.Goals as goal
+
+pub returns : goal.returns
+returns c = picked-listed c.args.c.now c.args.name.now c.args.inputs.now c.args.variadic

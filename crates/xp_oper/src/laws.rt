@@ -1,0 +1,19 @@
+//! What follows from the definition of a pick alone.
+ghost use Rattle.std.specs.Prelude.{◌≡◌, IfOk, false, length};
+ghost use Rattle.std.specs.Str.{bytes_eq};
+ghost use Rattle.xp_catalog.specs.Contents.{added};
+ghost use Rattle.xp_oper.specs.Picked.{IsListed, picked_operator};
+
+use xp_base::TypeNo;
+use xp_catalog::{Catalog, OperRow, Record};
+
+/// What is picked is one of the operators of that name over that many operands.
+pub fn a_candidate_is_picked(c: &Catalog, name: &str, inputs: &[TypeNo])
+    ensures { IfOk (picked_operator c.now name.now inputs.now) (IsListed c.now name.now (length inputs.now)) }
+{}
+
+/// One more operator of another name changes no pick.
+pub fn other_operators_change_nothing(c: &Catalog, name: &str, inputs: &[TypeNo], oper: OperRow)
+    requires { bytes_eq oper.name name.now ≡ false }
+    ensures { picked_operator (added c.now (Record.Operator oper)) name.now inputs.now ≡ picked_operator c.now name.now inputs.now }
+{}
