@@ -1,24 +1,20 @@
 -- Lists of candidates that a loop over rows makes.
-use Rattle.std.proofs.Common.{◌≡◌, ℕ, zero, suc, ◌+◌, List, [], ◌∷◌, ◌++◌, drop, refl, sym, subst, arith, append_assoc, add-one, Bool, true, ap, ◌∙◌, Option, Some, None}
+use Rattle.std.proofs.Common.{◌≡◌, ℕ, zero, suc, ◌+◌, List, [], ◌∷◌, ◌++◌, drop, refl, subst, arith, append_assoc, Bool, true, ap, ◌∙◌, Option, Some, None}
 use Rattle.std.specs.Prelude.{option_to_list}
 use Rattle.std.specs.List.{All, list_any, slice_get}
 use Rattle.std.specs.Option.{ForSome}
 use Rattle.std.proofs.lemmas.Bool.{or_left, or_right}
 use Rattle.std.proofs.lemmas.List.Elements.{All-append, All-cons, All-nil}
 use Rattle.std.proofs.lemmas.List.Folds.{list_any-append}
+use Rattle.xp_poly.proofs.Lists.{rest_at}
 use Rattle.xp_candidates.specs.Forms.{forms_from}
 use Rattle.xp_candidates.specs.declared.candidate.Candidate.{Candidate}
-
-drop-row : {Row : Type 0} (rows : List Row) (place : ℕ) (row : Row) → slice_get rows place ≡ Some row → drop place rows ≡ row ∷ drop (suc place) rows
-drop-row [] place row is = cc
-drop-row (first ∷ rows) zero row is = let same : first ≡ row = cc in rw same refl
-drop-row (first ∷ rows) (suc place) row is = drop-row rows place row is
 
 -- one row more
 pub forms-more : {Row : Type 0} (forms : ℕ → Row → List Candidate) (rows : List Row) (place : ℕ) (row : Row) (before after all : List Candidate) → slice_get rows place ≡ Some row → after ≡ before ++ forms place row → before ++ forms_from forms place (drop place rows) ≡ all → after ++ forms_from forms (place + 1) (drop (place + 1) rows) ≡ all
 forms-more forms rows place row before after all at is so_far =
-    let now : before ++ (forms place row ++ forms_from forms (place + 1) (drop (suc place) rows)) ≡ all = subst (λ rest. before ++ forms_from forms place rest ≡ all) (drop-row rows place row at) so_far in
-    rw (is, append_assoc) (subst (λ next. before ++ (forms place row ++ forms_from forms (place + 1) (drop next rows)) ≡ all) (sym (add-one place)) now)
+    let now : before ++ (forms place row ++ forms_from forms (place + 1) (drop (place + 1) rows)) ≡ all = subst (λ rest. before ++ forms_from forms place rest ≡ all) (rest_at rows place row at) so_far in
+    rw (is, append_assoc) now
 
 All-option : (P : Candidate → Type 0) (form : Option Candidate) → ForSome form P → All P (option_to_list form)
 All-option P None some = All-nil P
