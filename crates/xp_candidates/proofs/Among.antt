@@ -1,11 +1,12 @@
 -- The record that is chosen is one of the candidates'.
-use Rattle.std.proofs.Common.{◌≡◌, ℕ, ◌<◌, List, [], ◌∷◌, Bool, true, false, ◌||◌, cond, zero, suc, refl, Option, Some, None, Ok, Err, arith}
+use Rattle.std.proofs.Common.{◌≡◌, ℕ, ◌<◌, List, [], ◌∷◌, Bool, true, false, ◌||◌, cond, refl, subst, sym, Option, Some, None, Ok, Err, arith}
 use Rattle.std.specs.Prelude.{IfOk}
 use Rattle.std.specs.List.{All, list_any, slice_get}
 use Rattle.std.specs.Option.{option_map_or}
-use Rattle.std.proofs.lemmas.Bool.{or_left, or_right}
 use Rattle.std.proofs.lemmas.Bool.Decides.{nat_tests}
 use Rattle.std.proofs.lemmas.List.Elements.{All-head, All-tail}
+use Rattle.std.proofs.lemmas.List.Folds.{list_any_at}
+use Rattle.std.proofs.lemmas.Option.{get_or_from_slice_get, slice_get_within}
 use Rattle.xp_base.specs.declared.numbers.TypeNo.{TypeNo}
 use Rattle.xp_catalog.specs.Contents.{Contents}
 use Rattle.xp_candidates.specs.Bound.{binds}
@@ -29,17 +30,14 @@ row-among count picked [] each is = cc
 row-among count picked (cand ∷ cands) each is =
     among-step count picked (is_of picked cand) (list_any (is_of picked) cands) (row-of count picked cand (All-head (λ cand. cand.row.0 < count) cand cands each)) (row-among count picked cands (All-tail (λ cand. cand.row.0 < count) cand cands each)) is
 
-any-at : (test : Candidate → Bool) (cands : List Candidate) (place : ℕ) (cand : Candidate) → slice_get cands place ≡ Some cand → test cand ≡ true → list_any test cands ≡ true
-any-at test [] place cand at passes = cc
-any-at test (first ∷ cands) zero cand at passes = let same : first ≡ cand = cc in or_left (test first) _ (rw same passes)
-any-at test (first ∷ cands) (suc place) cand at passes = or_right (test first) _ (any-at test cands place cand at passes)
-
 is_of-own : (cand : Candidate) → is_of (record { row = cand.row; expanded = cand.expanded }) cand ≡ true
 is_of-own cand = grind (arith, nat_tests)
 
 -- the one at a place is among them
 pub own-among : (cands : List Candidate) (place : ℕ) (cand : Candidate) → slice_get cands place ≡ Some cand → list_any (is_of (record { row = cand.row; expanded = cand.expanded })) cands ≡ true
-own-among cands place cand at = any-at (is_of (record { row = cand.row; expanded = cand.expanded })) cands place cand at (is_of-own cand)
+own-among cands place cand at =
+    let own = is_of (record { row = cand.row; expanded = cand.expanded }) in
+    list_any_at own cands place cand (slice_get_within cands place cand at) (subst (λ it. own it ≡ true) (sym (get_or_from_slice_get cands place cand cand at)) (is_of-own cand))
 
 outcome-among : (c : Contents) (inputs : List TypeNo) (cands : List Candidate) (marked : Marked) → IfOk (outcome c inputs cands marked) (λ picked. list_any (is_of picked) cands ≡ true)
 outcome-among c inputs cands Nothing = tt
