@@ -1,4 +1,6 @@
 pub mod Codes
 pub mod Growth
+pub mod Operators
+pub mod OrMemory
 pub mod Outside
 pub mod Stored

@@ -1,5 +1,5 @@
 -- What a shelf answers and what a sink takes.
-use Rattle.std.specs.Prelude.{◌≡◌, ℕ, ◌+◌, ◌<◌, ◌≤◌, List, [], ◌∷◌, Option, Some, None, Result, Ok, Err, IfSome, length, cond, ◌⊎◌}
+use Rattle.std.specs.Prelude.{◌≡◌, ℕ, ◌+◌, ◌<◌, ◌≤◌, List, [], ◌∷◌, Option, Some, None, Result, Ok, Err, IfSome, length, cond, ◌⊎◌, Bool, true, false}
 use Rattle.std.specs.Str.{bytes_eq}
 use Rattle.xp_base.specs.Growth.{grown, GrowsWithin, Rose}
 use Rattle.xp_base.specs.declared.outside.LoadFault.{LoadFault}
@@ -27,6 +27,11 @@ Lacks (Some files) name = text_at files name ≡ None
 -- the files, where they are told, have a text of more than that many bytes under this name
 abbrev pub TellsLonger : Option Files → List ℕ → ℕ → Type 0
 TellsLonger held name limit = IfSome held (λ files. (text : List ℕ) × (text_at files name ≡ Some text) × (limit < length text))
+
+-- want of memory, among the faults of loading
+abbrev pub is_load_memory : LoadFault → Bool
+is_load_memory fault.Memory = true
+is_load_memory _ = false
 
 -- what `load` answers
 abbrev pub Loads : Option Files → List ℕ → ℕ → ℕ → ℕ → Result (List ℕ) LoadFault → Type 0

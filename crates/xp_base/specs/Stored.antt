@@ -1,7 +1,8 @@
 -- What the shelves and the sink in memory show, and when they fail.
-use Rattle.std.specs.Prelude.{◌≡◌, ℕ, ◌+◌, ◌-◌, ◌^◌, ◌==◌, ◌&&◌, not, min, List, Bool, cond, nat_lt, nat_le, length, map, Option, Some, None, Result, Ok, Err}
+use Rattle.std.specs.Prelude.{ℕ, ◌+◌, ◌-◌, ◌^◌, ◌==◌, ◌&&◌, not, min, List, Bool, cond, nat_lt, nat_le, length, map, Option, Some, None, Result, Ok, Err}
 use Rattle.std.specs.List.{list_any}
-use Rattle.xp_base.specs.Outside.{Files, text_at}
+use Rattle.xp_base.specs.OrMemory.{OrMemory}
+use Rattle.xp_base.specs.Outside.{Files, text_at, is_load_memory}
 use Rattle.xp_base.specs.declared.memory.StoredFile.{StoredFile}
 use Rattle.xp_base.specs.declared.memory.MemoryShelf.{MemoryShelf}
 use Rattle.xp_base.specs.declared.memory.MemorySink.{MemorySink}
@@ -13,9 +14,9 @@ use Rattle.xp_base.specs.declared.outside.LoadFault.TheVariants as fault
 abbrev pub pairs : List StoredFile → Files
 pairs files = map (λ file. (file.name, file.text)) files
 
--- a count of calls that stops at the greatest u64
+-- one more, for a count that stops at the greatest u64
 abbrev pub next_call : ℕ → ℕ
-next_call calls = min (calls + 1) (2 ^ 64 - 1)
+next_call count = min (count + 1) (2 ^ 64 - 1)
 
 -- the call of this number is to fail
 abbrev pub is_failing : ℕ → List ℕ → Bool
@@ -52,12 +53,13 @@ file_answer files name limit = text_answer limit (text_at files name)
 abbrev pub shelf_answer : MemoryShelf → List ℕ → ℕ → Result (List ℕ) LoadFault
 shelf_answer shelf name limit = cond (is_failing (next_call shelf.calls) shelf.failing.items) (Err fault.Failed) (file_answer (shelf_files shelf) name limit)
 
--- this answer, or want of memory, which is free
+-- what `load` answers is this, or want of memory
 abbrev pub AnswersShelf : Result (List ℕ) LoadFault → Result (List ℕ) LoadFault → Type 0
-AnswersShelf said (Ok text) = said ≡ Ok text
-AnswersShelf said (Err fault.Failed) = said ≡ Err fault.Failed
-AnswersShelf said (Err (fault.TooLong read)) = said ≡ Err (fault.TooLong read)
-AnswersShelf said (Err fault.Memory) = Unit {0}
+AnswersShelf said result = OrMemory is_load_memory said result
+
+-- the faults behind the shelf's next call: one more exactly where that call is to fail, and none for a name that isn't there
+abbrev pub shelf_faults_after : MemoryShelf → ℕ
+shelf_faults_after shelf = cond (is_failing (next_call shelf.calls) shelf.failing.items) (next_call shelf.faults) shelf.faults
 
 abbrev pub sink_bytes : MemorySink → List ℕ
 sink_bytes sink = sink.bytes.items
@@ -82,3 +84,7 @@ puts_in_memory sink piece = not (is_failing (next_call sink.calls) sink.failing.
 -- the room behind the next call
 abbrev pub room_after : MemorySink → List ℕ → ℕ
 room_after sink piece = cond (puts_in_memory sink piece) (sink.room - length piece) sink.room
+
+-- the faults behind the sink's next call: one more exactly where it doesn't put the piece
+abbrev pub sink_faults_after : MemorySink → List ℕ → ℕ
+sink_faults_after sink piece = cond (puts_in_memory sink piece) sink.faults (next_call sink.faults)

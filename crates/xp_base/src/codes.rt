@@ -2,6 +2,9 @@
 ghost use Rattle.std.specs.Prelude.{◌≡◌};
 ghost use Rattle.xp_base.specs.Codes.{state_of, word_of};
 
+use std::error::Error;
+use std::fmt;
+
 /// Why an evaluation raised (manual appendix A).
 #[derive(Clone, Copy, Debug, PartialEq, Eq)]
 pub enum EvalError {
@@ -151,3 +154,21 @@ fn error_word(error: EvalError) -> &'static str
         EvalError::Dimensions => "dimensions",
     }
 }
+
+/// The state and the word, as `22012 division_by_zero`.
+impl fmt::Display for Code {
+    fn fmt<W: fmt::Write>(&self, f: &mut fmt::Formatter<W>) -> fmt::Result {
+        write!(f, "{} {}", self.state(), self.word())
+    }
+}
+
+impl Error for Code {}
+
+/// As its code.
+impl fmt::Display for EvalError {
+    fn fmt<W: fmt::Write>(&self, f: &mut fmt::Formatter<W>) -> fmt::Result {
+        self.code().fmt(f)
+    }
+}
+
+impl Error for EvalError {}

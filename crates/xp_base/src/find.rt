@@ -34,8 +34,6 @@ pub fn load_file(
         return Err(LoadFault::TooLong { read: limit + 1 });
     }
     let mut bytes = Byts::new(alloc);
-    match bytes.append(text) {
-        Ok(()) => Ok(bytes),
-        Err(_) => Err(LoadFault::Memory),
-    }
+    bytes.append(text)?;
+    Ok(bytes)
 }

@@ -1,4 +1,5 @@
 //! The limits on what is read and made.
+ghost use Rattle.std.specs.Prelude.{◌≡◌};
 
 /// The most bytes of a script.
 pub const SCRIPT_LIMIT: u64 = 1_048_576;
@@ -38,3 +39,20 @@ pub const ELEMENT_LIMIT: u32 = 65_536;
 
 /// The most digits, and the most decimals, of a numeric.
 pub const DIGIT_LIMIT: u8 = 38;
+
+/// A law: what each limit is, in numbers.
+pub fn limits_are_these()
+    ensures script { SCRIPT_LIMIT ≡ 1048576 }
+    ensures catalog { CATALOG_LIMIT ≡ 4194304 }
+    ensures records { RECORD_LIMIT ≡ 20000 }
+    ensures rows_file { ROWS_LIMIT ≡ 16777216 }
+    ensures rows { ROW_LIMIT ≡ 100000 }
+    ensures columns { COLUMN_LIMIT ≡ 200 }
+    ensures tokens { TOKEN_LIMIT ≡ 20000 }
+    ensures depth { DEPTH_LIMIT ≡ 200 }
+    ensures arguments { ARGUMENT_LIMIT ≡ 100 }
+    ensures nodes { NODE_LIMIT ≡ 20000 }
+    ensures value { VALUE_LIMIT ≡ 1048576 }
+    ensures elements { ELEMENT_LIMIT ≡ 65536 }
+    ensures digits { DIGIT_LIMIT ≡ 38 }
+{}

@@ -42,7 +42,7 @@ impl MemoryShelf {
 
 impl Shelf for MemoryShelf {
     ghost use Rattle.std.specs.Prelude.{Some};
-    ghost use Rattle.xp_base.specs.Stored.{AnswersShelf, next_call, shelf_answer, shelf_calls, shelf_failing, shelf_faults, shelf_files};
+    ghost use Rattle.xp_base.specs.Stored.{AnswersShelf, next_call, shelf_answer, shelf_calls, shelf_failing, shelf_faults, shelf_faults_after, shelf_files};
 
     ghost held = { λ s. Some (shelf_files s) };
 
@@ -54,6 +54,7 @@ impl Shelf for MemoryShelf {
         ensures rises { shelf_faults self.old ≤ shelf_faults self.new }
 
         ensures exact { AnswersShelf (shelf_answer self.old name.now limit) result }
+        ensures counted { shelf_faults self.new ≡ shelf_faults_after self.old }
         ensures failing { shelf_failing self.new ≡ shelf_failing self.old }
         ensures calls { shelf_calls self.new ≡ next_call (shelf_calls self.old) }
     {
@@ -110,13 +111,9 @@ impl MemorySink {
         if bytes <= self.room {
             return Ok(());
         }
-        match self.bytes.reserve(bytes as usize) {
-            Ok(()) => {
-                self.room = bytes;
-                Ok(())
-            }
-            Err(_) => Err(Memory),
-        }
+        self.bytes.reserve(bytes as usize)?;
+        self.room = bytes;
+        Ok(())
     }
 
     pub fn contents(&self) -> &[u8]
@@ -128,7 +125,7 @@ impl MemorySink {
 
 impl Sink for MemorySink {
     ghost use Rattle.std.specs.Prelude.{Some};
-    ghost use Rattle.xp_base.specs.Stored.{next_call, puts_in_memory, room_after, sink_bytes, sink_calls, sink_failing, sink_faults, sink_room};
+    ghost use Rattle.xp_base.specs.Stored.{next_call, puts_in_memory, room_after, sink_bytes, sink_calls, sink_failing, sink_faults, sink_faults_after, sink_room};
 
     ghost contents = { λ s. Some (sink_bytes s) };
 
@@ -140,6 +137,7 @@ impl Sink for MemorySink {
 
         ensures exact { is_ok result ≡ puts_in_memory self.old piece.now }
         ensures unchanged { OnErr result (sink_bytes self.new ≡ sink_bytes self.old) }
+        ensures counted { sink_faults self.new ≡ sink_faults_after self.old piece.now }
         ensures room { sink_room self.new ≡ room_after self.old piece.now }
         ensures failing { sink_failing self.new ≡ sink_failing self.old }
         ensures calls { sink_calls self.new ≡ next_call (sink_calls self.old) }

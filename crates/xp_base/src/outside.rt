@@ -2,21 +2,36 @@
 ghost use Rattle.std.specs.Prelude.{◌≡◌, ◌≤◌, ℕ, List, Option};
 ghost use Rattle.xp_base.specs.Outside.{Files, Loads, Puts};
 
-use crate::Byts;
+use crate::{Byts, Memory};
 use std::alloc::Global;
+use thiserror::Error;
 
 /// Why a text was not loaded.
-#[derive(Clone, Copy, Debug, PartialEq, Eq)]
+#[derive(Clone, Copy, Debug, PartialEq, Eq, Error)]
 pub enum LoadFault {
     /// The shelf failed, or has no text of that name.
+    #[error("the text could not be read")]
     Failed,
     /// The text is longer than the limit; this many bytes were read, one more than the limit.
+    #[error("the text has {read} bytes or more")]
     TooLong { read: u64 },
+    #[error("out of memory")]
     Memory,
 }
 
+impl From<Memory> for LoadFault {
+    ghost use Rattle.xp_base.specs.declared.outside.LoadFault.TheVariants as fault;
+
+    ghost from_gives = { λ _ e. e ≡ fault.Memory };
+
+    fn from(_: Memory) -> LoadFault {
+        LoadFault::Memory
+    }
+}
+
 /// The sink failed.
-#[derive(Clone, Copy, Debug, PartialEq, Eq)]
+#[derive(Clone, Copy, Debug, PartialEq, Eq, Error)]
+#[error("the line could not be written")]
 pub struct Failed;
 
 /// Texts under names.

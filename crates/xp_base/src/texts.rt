@@ -1,12 +1,9 @@
 //! Names, texts and bytes, which contracts see as lists of bytes.
 ghost use Rattle.std.specs.Prelude.{◌≡◌, [], ◌++◌, IfOk, OnOk, OnErr, string_bytes};
 
+use crate::Memory;
 use std::alloc::Global;
 use std::marker::Model;
-
-/// There was no memory.
-#[derive(Clone, Copy, Debug, PartialEq, Eq)]
-pub struct Memory;
 
 /// The bytes of a name, which are UTF-8.
 #[derive(Debug, Drop)]
@@ -26,10 +23,9 @@ impl Name {
     pub fn from_str(alloc: Global, s: &str) -> Result<Name, Memory>
         ensures { IfOk result (λ n. n ≡ s.now) }
     {
-        match String::from_str(alloc, s) {
-            Ok(text) => Ok(Name { text }),
-            Err(_) => Err(Memory),
-        }
+        Ok(Name {
+            text: String::from_str(alloc, s)?,
+        })
     }
 
     /// Takes the text over, without memory.
@@ -64,10 +60,9 @@ impl Txt {
     pub fn from_str(alloc: Global, s: &str) -> Result<Txt, Memory>
         ensures { IfOk result (λ t. t ≡ s.now) }
     {
-        match String::from_str(alloc, s) {
-            Ok(text) => Ok(Txt { text }),
-            Err(_) => Err(Memory),
-        }
+        Ok(Txt {
+            text: String::from_str(alloc, s)?,
+        })
     }
 
     /// Takes the text over, without memory.
@@ -113,10 +108,8 @@ impl Byts {
         ensures ok { OnOk result (self.new ≡ self.old ++ piece.now) }
         ensures err { OnErr result (self.new ≡ self.old) }
     {
-        match self.bytes.extend_from_slice(piece) {
-            Ok(()) => Ok(()),
-            Err(_) => Err(Memory),
-        }
+        self.bytes.extend_from_slice(piece)?;
+        Ok(())
     }
 
     pub fn as_slice(&self) -> &[u8]
