@@ -40,7 +40,7 @@ Loads held name limit before now (Err fault.Failed) = Rose before now ⊎ Lacks 
 Loads held name limit before now (Err (fault.TooLong read)) = TellsLonger held name limit × (read ≡ limit + 1)
 Loads held name limit before now (Err fault.Memory) = Unit {0}
 
--- what `put` does: the whole piece, or a prefix of it where the sink failed
+-- what `put` does: the whole piece, and no fault is counted; or a prefix of it where the sink failed
 abbrev pub Puts : Option (List ℕ) → Option (List ℕ) → List ℕ → ℕ → ℕ → Result (Unit {0}) Failed → Type 0
-Puts old new piece before now (Ok done) = new ≡ grown old piece
+Puts old new piece before now (Ok done) = (new ≡ grown old piece) × (now ≡ before)
 Puts old new piece before now (Err failed) = GrowsWithin old new piece × Rose before now
