@@ -1,6 +1,6 @@
 -- A front is what some statement begins with.
 use Rattle.std.proofs.Common.{◌≡◌, true, ◌⊎◌, inl, inr, List, [], ◌∷◌, ◌++◌, refl, sym, ap, subst, ◌∙◌, append_assoc, arith}
-use Rattle.xp_lexer.specs.declared.token.Token.{Token}
+use Rattle.xp_token.specs.declared.token.Token.{Token}
 use Rattle.xp_grammar.proofs.Samples.{sample}
 use Rattle.xp_grammar.specs.declared.kind.Kind.TheVariants as k
 use Rattle.xp_grammar.specs.declared.kind.Class.{Class}

@@ -1,6 +1,6 @@
 -- Reading is the grammar, both ways, with the place of the first fault.
 use Rattle.std.proofs.Common.{◌≡◌, ℕ, suc, ◌+◌, ◌*◌, ◌≤◌, false, List, [], ◌∷◌, ◌++◌, length, Result, Ok, Err, refl, sym, ap, subst, ◌∙◌, append_assoc, append-nil, arith}
-use Rattle.xp_lexer.specs.declared.token.Token.{Token}
+use Rattle.xp_token.specs.declared.token.Token.{Token}
 use Rattle.xp_grammar.specs.Kinds.{ahead}
 use Rattle.xp_grammar.specs.Table.{Level, Value}
 use Rattle.xp_grammar.specs.Machine.{Outcome, run, rank, parse}

@@ -1,7 +1,7 @@
 -- What begins something that the grammar derives.
 use Rattle.std.specs.Prelude.{◌≡◌, true, List, [], ◌∷◌, ◌++◌}
 use Rattle.xp_grammar.specs.Grammar.{Derives}
-use Rattle.xp_lexer.specs.declared.token.Token.{Token}
+use Rattle.xp_token.specs.declared.token.Token.{Token}
 use Rattle.xp_grammar.specs.declared.kind.Class.{Class}
 use Rattle.xp_grammar.specs.Kinds.{kind, has}
 use Rattle.xp_grammar.specs.Table.{Level, Sym, Tok, Lev, Value, Start, Tail, level, parts, on, turn, fits}

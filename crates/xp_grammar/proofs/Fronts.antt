@@ -1,6 +1,6 @@
 -- A front is read to its end: no fault stands in it.
 use Rattle.std.proofs.Common.{◌≡◌, ℕ, zero, suc, ◌+◌, ◌*◌, ◌≤◌, Bool, true, false, ◌⊎◌, inl, inr, List, [], ◌∷◌, ◌++◌, length, Option, Some, None, Ok, Err, refl, sym, ap, subst, ◌∙◌, append_assoc, append-nil, length-append, if◌then◌else◌, arith, le_trans}
-use Rattle.xp_lexer.specs.declared.token.Token.{Token}
+use Rattle.xp_token.specs.declared.token.Token.{Token}
 use Rattle.xp_grammar.specs.declared.kind.Kind.{Kind}
 use Rattle.xp_grammar.specs.Kinds.{kind, has, ahead}
 use Rattle.xp_grammar.specs.Table.{Level, Sym, Tok, Lev, Value, Word, Start, Tail, level, parts, on, lead, rest, turn, is_open, fits, made, joined}

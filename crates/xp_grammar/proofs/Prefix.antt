@@ -1,6 +1,6 @@
 -- A fault stands at one place only.
 use Rattle.std.proofs.Common.{◌≡◌, ℕ, suc, ◌+◌, ◌≤◌, ◌⊎◌, inl, inr, List, [], ◌∷◌, ◌++◌, length, Result, Ok, Err, refl, sym, ap, subst, ◌∙◌, append_assoc, append-nil, length-append, arith}
-use Rattle.xp_lexer.specs.declared.token.Token.{Token}
+use Rattle.xp_token.specs.declared.token.Token.{Token}
 use Rattle.xp_grammar.specs.Table.{Value}
 use Rattle.xp_grammar.specs.Reads.{IsStatement, IsFront, Stuck, Fault, read}
 use Rattle.xp_grammar.proofs.Continued.{cut}

@@ -1,11 +1,11 @@
 -- A token of each kind.
 use Rattle.std.proofs.Common.{◌≡◌, ◌<◌, [], codes, true, false, arith}
 use Rattle.xp_base.specs.declared.decimal.Dec.{Dec}
-use Rattle.xp_lexer.specs.declared.token.Token.{Token}
-use Rattle.xp_lexer.specs.declared.token.TokenKind.{TokenKind}
-use Rattle.xp_lexer.specs.declared.token.TokenKind.TheVariants as t
-use Rattle.xp_lexer.specs.declared.token.Mark.TheVariants as m
-use Rattle.xp_lexer.specs.declared.words.Word.TheVariants as w
+use Rattle.xp_token.specs.declared.token.Token.{Token}
+use Rattle.xp_token.specs.declared.token.TokenKind.{TokenKind}
+use Rattle.xp_token.specs.declared.token.TokenKind.TheVariants as t
+use Rattle.xp_token.specs.declared.token.Mark.TheVariants as m
+use Rattle.xp_token.specs.declared.words.Word.TheVariants as w
 use Rattle.xp_grammar.specs.declared.kind.Kind.{Kind}
 use Rattle.xp_grammar.specs.declared.kind.Kind.TheVariants as k
 

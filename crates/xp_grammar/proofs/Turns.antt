@@ -1,6 +1,6 @@
 -- A level goes on in turns, the count of which makes no difference.
 use Rattle.std.proofs.Common.{◌≡◌, ℕ, zero, suc, ◌+◌, ◌*◌, ◌≤◌, ◌<◌, Bool, true, false, List, [], ◌∷◌, length, None, Ok, Err, refl, subst, ◌∙◌, if◌then◌else◌, arith}
-use Rattle.xp_lexer.specs.declared.token.Token.{Token}
+use Rattle.xp_token.specs.declared.token.Token.{Token}
 use Rattle.xp_grammar.specs.declared.kind.Class.{Class}
 use Rattle.xp_grammar.specs.Kinds.{kind, ahead, has}
 use Rattle.xp_grammar.specs.Table.{Level, Value, is_open, joined}

@@ -1,6 +1,6 @@
 -- What the grammar derives, one case for each sort of line (manual 4.1.6 and 4.2).
 use Rattle.std.specs.Prelude.{◌≡◌, true, List, [], ◌∷◌, ◌++◌}
-use Rattle.xp_lexer.specs.declared.token.Token.{Token}
+use Rattle.xp_token.specs.declared.token.Token.{Token}
 use Rattle.xp_grammar.specs.declared.kind.Class.{Class}
 use Rattle.xp_grammar.specs.Kinds.{kind, has}
 use Rattle.xp_grammar.specs.Table.{Sym, Tok, Lev, Value, Word, Start, Tail, level, parts, made, on, turn, fits, joined}

@@ -1,12 +1,12 @@
 -- The kinds of tokens, and classes of kinds (manual 4.1).
 use Rattle.std.specs.Prelude.{ℕ, Bool, false, ◌||◌, ◌==◌, List, [], ◌∷◌, codes, bytes_eq, if◌then◌else◌}
-use Rattle.xp_lexer.specs.declared.token.Token.{Token}
-use Rattle.xp_lexer.specs.declared.token.TokenKind.{TokenKind}
-use Rattle.xp_lexer.specs.declared.token.TokenKind.TheVariants as t
-use Rattle.xp_lexer.specs.declared.token.Mark.{Mark}
-use Rattle.xp_lexer.specs.declared.token.Mark.TheVariants as m
-use Rattle.xp_lexer.specs.declared.words.Word.{Word}
-use Rattle.xp_lexer.specs.declared.words.Word.TheVariants as w
+use Rattle.xp_token.specs.declared.token.Token.{Token}
+use Rattle.xp_token.specs.declared.token.TokenKind.{TokenKind}
+use Rattle.xp_token.specs.declared.token.TokenKind.TheVariants as t
+use Rattle.xp_token.specs.declared.token.Mark.{Mark}
+use Rattle.xp_token.specs.declared.token.Mark.TheVariants as m
+use Rattle.xp_token.specs.declared.words.Word.{Word}
+use Rattle.xp_token.specs.declared.words.Word.TheVariants as w
 use Rattle.xp_grammar.specs.declared.kind.Kind.{Kind}
 use Rattle.xp_grammar.specs.declared.kind.Kind.TheVariants as k
 use Rattle.xp_grammar.specs.declared.kind.Class.{Class}

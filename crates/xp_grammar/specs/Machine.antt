@@ -1,6 +1,6 @@
 -- The same grammar read from the left, with one token seen ahead, lines that begin alike being read together (manual 4.1.6).
 use Rattle.std.specs.Prelude.{ℕ, zero, suc, ◌+◌, ◌*◌, ◌-◌, take, Bool, true, false, ◌||◌, List, [], ◌∷◌, length, Option, Some, None, Result, Ok, Err, if◌then◌else◌}
-use Rattle.xp_lexer.specs.declared.token.Token.{Token}
+use Rattle.xp_token.specs.declared.token.Token.{Token}
 use Rattle.xp_grammar.specs.declared.kind.Kind.{Kind}
 use Rattle.xp_grammar.specs.declared.kind.Class.{Class}
 use Rattle.xp_grammar.specs.declared.kind.Class.TheVariants.{Names, Plains, Moments, Zoned, Truths, Constants, Likes, Choices, Sides, Fields}

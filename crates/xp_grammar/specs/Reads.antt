@@ -1,6 +1,6 @@
 -- What is read of a whole list of tokens, and the first token with which no statement continues (manual 4.1.6).
 use Rattle.std.specs.Prelude.{◌≡◌, ℕ, List, [], ◌∷◌, ◌++◌, length, Result, Ok, Err}
-use Rattle.xp_lexer.specs.declared.token.Token.{Token}
+use Rattle.xp_token.specs.declared.token.Token.{Token}
 use Rattle.xp_grammar.specs.Table.{Level, Lev, Value}
 use Rattle.xp_grammar.specs.Grammar.{Derives}
 use Rattle.xp_grammar.specs.Machine.{Outcome, parse}

@@ -1,10 +1,10 @@
 -- The lines of the grammar, and what each builds (manual 4.1.6, 4.2).
 use Rattle.std.specs.Prelude.{ℕ, Bool, true, false, List, [], ◌∷◌, ◌++◌, Option, Some, None, if◌then◌else◌}
 use Rattle.xp_base.specs.declared.numbers.Span.{Span}
-use Rattle.xp_lexer.specs.declared.token.Token.{Token}
-use Rattle.xp_lexer.specs.declared.token.TokenKind.{TokenKind}
-use Rattle.xp_lexer.specs.declared.token.TokenKind.TheVariants as t
-use Rattle.xp_lexer.specs.declared.words.Word.TheVariants as w
+use Rattle.xp_token.specs.declared.token.Token.{Token}
+use Rattle.xp_token.specs.declared.token.TokenKind.{TokenKind}
+use Rattle.xp_token.specs.declared.token.TokenKind.TheVariants as t
+use Rattle.xp_token.specs.declared.words.Word.TheVariants as w
 use Rattle.xp_grammar.specs.declared.kind.Kind.{Kind}
 use Rattle.xp_grammar.specs.declared.kind.Kind.TheVariants as k
 use Rattle.xp_grammar.specs.declared.kind.Class.{Class}

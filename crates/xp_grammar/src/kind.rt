@@ -2,7 +2,7 @@
 ghost use Rattle.std.specs.Prelude.{◌≡◌};
 ghost use Rattle.xp_grammar.specs.Kinds as spec;
 
-use xp_lexer::{Mark, Token, TokenKind, Word};
+use xp_token::{Mark, Token, TokenKind, Word};
 
 /// What a token is, but for what it holds.
 #[derive(Clone, Copy, Debug)]

@@ -1,6 +1,6 @@
 //! What holds of the grammar, whatever parser reads by it.
 ghost use Rattle.std.specs.Prelude.{◌≡◌, ℕ, List, Ok, Err};
-ghost use Rattle.xp_lexer.specs.declared.token.Token.{Token};
+ghost use Rattle.xp_token.specs.declared.token.Token.{Token};
 ghost use Rattle.xp_grammar.specs.Reads.{Fault, IsStatement, read};
 ghost use Rattle.xp_grammar.specs.Table.{Value};
 

@@ -2,7 +2,7 @@
 use crate::{Class, Kind, token_kind};
 use std::test::Fail;
 use xp_base::{Name, Span};
-use xp_lexer::{Mark, Token, TokenKind, Word};
+use xp_token::{Mark, Token, TokenKind, Word};
 
 #[test]
 fn tokens_are_told_apart_by_kind(rt: HostRuntime) -> Result<(), Fail> {

@@ -4,14 +4,15 @@ use Rattle.std.proofs.lemmas.Bool.Decides.{nat_tests}
 use Rattle.xp_lexer.specs.declared.trouble.Trouble.{Trouble}
 use Rattle.xp_lexer.specs.declared.trouble.Trouble.TheVariants as trouble
 use Rattle.xp_lexer.specs.Bytes.{Text}
-use Rattle.xp_lexer.specs.Lexemes.{Lexeme, Placed, NumberOf, TooWide, EndOf}
-use Rattle.xp_lexer.specs.Cutting.{operator, operator_len, token, piece, is_end, is_operator, Statement, with_front, admitted, statement, lexed, Answers}
+use Rattle.xp_token.specs.Ended.{is_end}
+use Rattle.xp_token.specs.Lexemes.{Lexeme, Placed, NumberOf, TooWide, EndOf}
+use Rattle.xp_lexer.specs.Cutting.{operator, operator_len, token, piece, is_operator, Statement, with_front, admitted, statement, lexed, Answers}
 use Rattle.xp_lexer.specs.Meaning.{is_glued, number_of, named, token_at, Answer}
 use Rattle.std.specs.Prelude.{nat_lt, nat_le}
-use Rattle.xp_lexer.specs.declared.words.Word.{Word}
-use Rattle.xp_lexer.specs.declared.token.Lexed.{Lexed}
-use Rattle.xp_lexer.specs.declared.token.LexFault.{LexFault}
-use Rattle.xp_lexer.specs.declared.token.LexFault.TheVariants as fault
+use Rattle.xp_token.specs.declared.words.Word.{Word}
+use Rattle.xp_lexer.specs.declared.lexed.Lexed.{Lexed}
+use Rattle.xp_lexer.specs.declared.lexed.LexFault.{LexFault}
+use Rattle.xp_lexer.specs.declared.lexed.LexFault.TheVariants as fault
 use Rattle.xp_lexer.specs.Grammar.{Gap, Reads, Stops, Passes, Bad, Fails, IsAnswer, IsRight}
 use Rattle.xp_lexer.proofs.Runs.{operator_alone}
 use Rattle.xp_lexer.proofs.Tokens.{gap_is, stop_is, reads_are, bad_is, PieceIs, piece_cases}

@@ -7,7 +7,7 @@ use Rattle.xp_lexer.specs.declared.trouble.Trouble.TheVariants as trouble
 use Rattle.xp_lexer.specs.Bytes.{Text, is_space}
 use Rattle.xp_lexer.specs.Cutting.{◌>>=◌, continued, part, all_parts, string}
 use Rattle.xp_lexer.specs.Meaning.{clean_len}
-use Rattle.xp_lexer.specs.Lexemes.{Constant}
+use Rattle.xp_token.specs.Lexemes.{Constant}
 use Rattle.xp_lexer.specs.Grammar.{Quoted, IsClean, Continues, Parts, BadParts}
 use Rattle.xp_lexer.proofs.Parts.{continued_within, all_parts_end, all_parts_more}
 use Rattle.xp_lexer.proofs.Quoting.{quoted_cases, clean_cases, part_is, part_spoilt, part_open}

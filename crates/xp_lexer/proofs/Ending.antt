@@ -4,14 +4,14 @@ use Rattle.std.specs.Prelude.{nat_lt, nat_le}
 use Rattle.std.proofs.lemmas.Bool.{and_from, false≢true}
 use Rattle.xp_lexer.specs.declared.numbers.Exponent.{Exponent}
 use Rattle.xp_lexer.specs.declared.numbers.Exponent.TheVariants as shift
-use Rattle.xp_lexer.specs.declared.token.Lexed.{Lexed}
-use Rattle.xp_lexer.specs.declared.token.LexFault.{LexFault}
-use Rattle.xp_lexer.specs.declared.words.Word.{Word}
+use Rattle.xp_lexer.specs.declared.lexed.Lexed.{Lexed}
+use Rattle.xp_lexer.specs.declared.lexed.LexFault.{LexFault}
+use Rattle.xp_token.specs.declared.words.Word.{Word}
 use Rattle.xp_lexer.specs.Bytes.{Text, first}
-use Rattle.xp_lexer.specs.Lexemes.{Lexeme, Placed, NumberOf, TooWide, EndOf, all_placed}
+use Rattle.xp_token.specs.Lexemes.{Lexeme, Placed, NumberOf, TooWide, EndOf, all_placed}
 use Rattle.xp_lexer.specs.Meaning.{Answer, number_of, named, is_absent, token_at}
-use Rattle.xp_lexer.specs.Cutting.{is_end, lexed, Answers}
-use Rattle.xp_lexer.specs.Ended.{is_ended, is_plain, are_plain}
+use Rattle.xp_lexer.specs.Cutting.{lexed, Answers}
+use Rattle.xp_token.specs.Ended.{is_end, is_ended, is_plain, are_plain}
 use Rattle.xp_lexer.specs.Grammar.{Reads, Passes, Stops, Fraction, scaled, IsAnswer}
 use Rattle.xp_lexer.proofs.Answering.{reads_no_end, passes_are, right_of}
 

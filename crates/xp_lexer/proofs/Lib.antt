@@ -4,7 +4,6 @@ pub mod Constants
 pub mod Ending
 pub mod Fronts
 pub mod Gaps
-pub mod Holding
 pub mod Numerals
 pub mod Parts
 pub mod Powers

@@ -6,7 +6,7 @@ use Rattle.std.proofs.lemmas.Bool.{and_parts}
 use Rattle.std.proofs.lemmas.Bool.Decides.{nat_tests}
 use Rattle.std.proofs.lemmas.List.{append-nil}
 use Rattle.xp_lexer.specs.Bytes.{Text, first, is_sign, is_free}
-use Rattle.xp_lexer.specs.Lexemes.{OperatorOf}
+use Rattle.xp_token.specs.Lexemes.{OperatorOf}
 use Rattle.xp_lexer.specs.Cutting.{operator_len, cut, operator}
 use Rattle.xp_lexer.specs.Meaning.{goes_on, spelled}
 use Rattle.xp_lexer.specs.Grammar.{Run, Trims, ends_plain}

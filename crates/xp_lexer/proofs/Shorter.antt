@@ -6,12 +6,13 @@ use Rattle.std.proofs.lemmas.Bool.{and_parts}
 use Rattle.std.proofs.lemmas.Bool.Decides.{nat_tests}
 use Rattle.std.proofs.lemmas.List.{length-drop}
 use Rattle.xp_lexer.specs.declared.trouble.Trouble.TheVariants as trouble
-use Rattle.xp_lexer.specs.declared.token.Mark.{Mark}
-use Rattle.xp_lexer.specs.declared.token.Mark.TheVariants as mark
+use Rattle.xp_token.specs.declared.token.Mark.{Mark}
+use Rattle.xp_token.specs.declared.token.Mark.TheVariants as mark
 use Rattle.xp_lexer.specs.declared.numbers.Exponent.TheVariants as shift
 use Rattle.xp_lexer.specs.Bytes.{Text, first, is_space, is_decimal, begins_name, is_name_byte, is_operator_byte, is_sign, is_free, opens_comment}
-use Rattle.xp_lexer.specs.Lexemes.{Lexeme, QuotedName, Constant, MarkOf, EndOf}
-use Rattle.xp_lexer.specs.Cutting.{◌>>=◌, line_rest, comment_rest, behind_comment, comment, digits, extended, decimals, fraction, sign, exponent_digits, exponent_at, decimal, number, names_base, name_len, name, cut, operator, operator_len, part, more_parts, then_more, continued, all_parts, string, quoted_name, word, one_byte, mark_at, token, piece, is_end}
+use Rattle.xp_token.specs.Ended.{is_end}
+use Rattle.xp_token.specs.Lexemes.{Lexeme, QuotedName, Constant, MarkOf, EndOf}
+use Rattle.xp_lexer.specs.Cutting.{◌>>=◌, line_rest, comment_rest, behind_comment, comment, digits, extended, decimals, fraction, sign, exponent_digits, exponent_at, decimal, number, names_base, name_len, name, cut, operator, operator_len, part, more_parts, then_more, continued, all_parts, string, quoted_name, word, one_byte, mark_at, token, piece}
 use Rattle.xp_lexer.specs.Meaning.{base_of, number_of, goes_on, is_prefix, begins_number}
 use Rattle.xp_lexer.proofs.Parts.{bind_ok, part_shorter, continued_within}
 

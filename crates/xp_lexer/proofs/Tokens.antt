@@ -5,9 +5,9 @@ use Rattle.std.proofs.lemmas.Bool.{and_parts}
 use Rattle.std.proofs.lemmas.Bool.Decides.{nat_tests}
 use Rattle.xp_lexer.specs.declared.trouble.Trouble.{Trouble}
 use Rattle.xp_lexer.specs.declared.trouble.Trouble.TheVariants as trouble
-use Rattle.xp_lexer.specs.declared.token.Mark.TheVariants as mark
+use Rattle.xp_token.specs.declared.token.Mark.TheVariants as mark
 use Rattle.xp_lexer.specs.Bytes.{Text, first, is_space, is_decimal, begins_name, is_name_byte, is_operator_byte, opens_comment}
-use Rattle.xp_lexer.specs.Lexemes.{Lexeme, QuotedName, Constant, OperatorOf, MarkOf, EndOf}
+use Rattle.xp_token.specs.Lexemes.{Lexeme, QuotedName, Constant, OperatorOf, MarkOf, EndOf}
 use Rattle.xp_lexer.specs.Cutting.{◌>>=◌, comment, comment_rest, line_rest, number, name, word, quoted_name, mark_at, token, piece}
 use Rattle.xp_lexer.specs.Meaning.{number_of, is_prefix, goes_on, spelled, begins_number}
 use Rattle.xp_lexer.specs.Grammar.{Comments, Gap, Longest, Quoted, IsClean, Parts, Based, Run, Trims, folded, Reads, Stops, Bad}

@@ -4,9 +4,10 @@ use Rattle.xp_lexer.specs.declared.trouble.Trouble.{Trouble}
 use Rattle.xp_lexer.specs.declared.trouble.Trouble.TheVariants as trouble
 use Rattle.xp_lexer.specs.Bytes.{Text}
 use Rattle.std.proofs.lemmas.List.{map-append}
-use Rattle.xp_lexer.specs.declared.token.Token.{Token}
-use Rattle.xp_lexer.specs.Lexemes.{Lexeme, Placed, placed, all_placed}
-use Rattle.xp_lexer.specs.Cutting.{◌>>=◌, Fails, piece, is_end, is_operator, with_front, admitted, onward, pieces, Statement, statement}
+use Rattle.xp_token.specs.declared.token.Token.{Token}
+use Rattle.xp_token.specs.Ended.{is_end}
+use Rattle.xp_token.specs.Lexemes.{Lexeme, Placed, placed, all_placed}
+use Rattle.xp_lexer.specs.Cutting.{◌>>=◌, Fails, piece, is_operator, with_front, admitted, onward, pieces, Statement, statement}
 use Rattle.xp_lexer.specs.Meaning.{token_at}
 use Rattle.xp_lexer.proofs.Parts.{bind_same}
 use Rattle.xp_lexer.proofs.Shorter.{goes_on_behind, piece_shorter}

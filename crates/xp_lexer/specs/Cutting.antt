@@ -7,13 +7,14 @@ use Rattle.xp_lexer.specs.declared.numbers.Exponent.{Exponent}
 use Rattle.xp_lexer.specs.declared.numbers.Exponent.TheVariants as shift
 use Rattle.xp_lexer.specs.declared.trouble.Trouble.{Trouble}
 use Rattle.xp_lexer.specs.declared.trouble.Trouble.TheVariants as trouble
-use Rattle.xp_lexer.specs.declared.token.Lexed.{Lexed}
-use Rattle.xp_lexer.specs.declared.token.LexFault.{LexFault}
-use Rattle.xp_lexer.specs.declared.token.LexFault.TheVariants as fault
-use Rattle.xp_lexer.specs.declared.token.Mark.TheVariants as mark
-use Rattle.xp_lexer.specs.declared.token.Mark.{Mark}
-use Rattle.xp_lexer.specs.Lexemes.{Lexeme, Placed, all_placed, QuotedName, Constant, OperatorOf, MarkOf, EndOf}
-use Rattle.xp_lexer.specs.Words.{word_named}
+use Rattle.xp_lexer.specs.declared.lexed.Lexed.{Lexed}
+use Rattle.xp_lexer.specs.declared.lexed.LexFault.{LexFault}
+use Rattle.xp_lexer.specs.declared.lexed.LexFault.TheVariants as fault
+use Rattle.xp_token.specs.declared.token.Mark.TheVariants as mark
+use Rattle.xp_token.specs.declared.token.Mark.{Mark}
+use Rattle.xp_token.specs.Lexemes.{Lexeme, Placed, all_placed, QuotedName, Constant, OperatorOf, MarkOf, EndOf}
+use Rattle.xp_token.specs.Ended.{is_end}
+use Rattle.xp_token.specs.Words.{word_named}
 use Rattle.xp_lexer.specs.Meaning.{named, base_of, is_absent, number_of, goes_on, spelled, clean_len, is_prefix, begins_number, is_glued, token_at, fault_of, Answer}
 use Rattle.xp_lexer.specs.Bytes.{Text, first, is_space, is_decimal, begins_name, is_name_byte, is_sign, is_free, is_operator_byte, opens_comment}
 
@@ -248,10 +249,6 @@ piece alone z =
     else token alone z >>= (λ p. Ok (Some p.0, p.1)))))
 
 -- ---- the statement
-
-abbrev pub is_end : Lexeme → Bool
-is_end EndOf = true
-is_end _ = false
 
 abbrev pub is_operator : Lexeme → Bool
 is_operator (OperatorOf o) = true

@@ -6,15 +6,15 @@ use Rattle.std.specs.List.{list_any, list_all}
 use Rattle.std.specs.Str.{str_to_ascii_lowercase}
 use Rattle.xp_lexer.specs.declared.numbers.Exponent.{Exponent}
 use Rattle.xp_lexer.specs.declared.numbers.Exponent.TheVariants as shift
-use Rattle.xp_lexer.specs.declared.token.Mark.TheVariants as mark
-use Rattle.xp_lexer.specs.declared.token.Lexed.{Lexed}
-use Rattle.xp_lexer.specs.declared.token.LexFault.{LexFault}
-use Rattle.xp_lexer.specs.declared.token.LexFault.TheVariants as fault
+use Rattle.xp_token.specs.declared.token.Mark.TheVariants as mark
+use Rattle.xp_lexer.specs.declared.lexed.Lexed.{Lexed}
+use Rattle.xp_lexer.specs.declared.lexed.LexFault.{LexFault}
+use Rattle.xp_lexer.specs.declared.lexed.LexFault.TheVariants as fault
 use Rattle.xp_lexer.specs.declared.trouble.Trouble.{Trouble}
 use Rattle.xp_lexer.specs.declared.trouble.Trouble.TheVariants as trouble
 use Rattle.xp_lexer.specs.Bytes.{Text, first, is_space, is_decimal, begins_name, is_name_byte, is_sign, is_free, opens_comment}
-use Rattle.xp_lexer.specs.Lexemes.{Lexeme, Placed, all_placed, QuotedName, Constant, OperatorOf, MarkOf, EndOf}
-use Rattle.xp_lexer.specs.Words.{word_named}
+use Rattle.xp_token.specs.Lexemes.{Lexeme, Placed, all_placed, QuotedName, Constant, OperatorOf, MarkOf, EndOf}
+use Rattle.xp_token.specs.Words.{word_named}
 use Rattle.xp_lexer.specs.Meaning.{named, number_of, base_of, is_absent, begins_number, goes_on, spelled, clean_len, is_prefix, is_glued, token_at, fault_of, Answer}
 
 -- ---- white space and comments

@@ -6,13 +6,13 @@ use Rattle.std.specs.Str.{bytes_eq}
 use Rattle.std.specs.Str.Lossy.{utf8_valid_len}
 use Rattle.xp_lexer.specs.declared.numbers.Exponent.{Exponent}
 use Rattle.xp_lexer.specs.declared.numbers.Exponent.TheVariants as shift
-use Rattle.xp_lexer.specs.declared.token.LexFault.{LexFault}
-use Rattle.xp_lexer.specs.declared.token.LexFault.TheVariants as fault
+use Rattle.xp_lexer.specs.declared.lexed.LexFault.{LexFault}
+use Rattle.xp_lexer.specs.declared.lexed.LexFault.TheVariants as fault
 use Rattle.xp_lexer.specs.declared.trouble.Trouble.{Trouble}
 use Rattle.xp_lexer.specs.declared.trouble.Trouble.TheVariants as trouble
-use Rattle.xp_lexer.specs.declared.words.Word.{Word}
+use Rattle.xp_token.specs.declared.words.Word.{Word}
 use Rattle.xp_lexer.specs.Bytes.{Text, first, is_decimal, is_name_byte, is_operator_byte, opens_comment}
-use Rattle.xp_lexer.specs.Lexemes.{Lexeme, Placed, NameOf, Reserved, NumberOf, TooWide}
+use Rattle.xp_token.specs.Lexemes.{Lexeme, Placed, NameOf, Reserved, NumberOf, TooWide}
 
 -- the reserved word, or else the name
 abbrev pub named : Option Word → Text → Lexeme

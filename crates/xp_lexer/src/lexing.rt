@@ -3,18 +3,20 @@ ghost use Rattle.std.specs.Prelude.{◌≡◌, ◌<◌, ◌≤◌, ◌^◌, ◌-
 ghost use Rattle.xp_lexer.specs.Cutting as spec;
 ghost use Rattle.xp_lexer.specs.Meaning as meaning;
 ghost use Rattle.xp_lexer.specs.Grammar.{IsAnswer, IsRight};
-ghost use Rattle.xp_lexer.specs.Ended.{is_ended, are_plain};
-ghost use Rattle.xp_lexer.specs.Lexemes.{seen, placed, all_placed};
+ghost use Rattle.xp_token.specs.Ended as ended;
+ghost use Rattle.xp_token.specs.Ended.{is_ended, are_plain};
+ghost use Rattle.xp_token.specs.Lexemes.{seen, placed, all_placed};
 
 use crate::bytes::{byte, is_name_byte};
+use crate::lexed::{LexFault, Lexed};
 use crate::pieces::piece;
-use crate::token::{LexFault, Lexed, Token, TokenKind, Tokens};
 use crate::trouble::Trouble;
 use std::alloc::Global;
 use xp_base::{Span, TOKEN_LIMIT};
+use xp_token::{Token, TokenKind, Tokens};
 
 fn is_end(kind: &TokenKind) -> bool
-    ensures { result ≡ spec.is_end (seen kind.now) }
+    ensures { result ≡ ended.is_end (seen kind.now) }
 {
     matches!(kind, TokenKind::End)
 }

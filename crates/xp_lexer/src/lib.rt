@@ -2,6 +2,7 @@
 #![tactic(auto)]
 
 mod bytes;
+mod lexed;
 mod lexing;
 mod names;
 mod numbers;
@@ -9,13 +10,10 @@ mod operators;
 mod pieces;
 mod quoted;
 mod space;
-mod token;
 mod trouble;
-mod words;
 
+pub use lexed::{LexFault, Lexed};
 pub use lexing::lex;
-pub use token::{LexFault, Lexed, Mark, Token, TokenKind, Tokens};
-pub use words::Word;
 
 #[cfg(test)]
 mod tests;

@@ -2,15 +2,14 @@
 ghost use Rattle.std.specs.Prelude.{◌≡◌, ◌<◌, ◌≤◌, length, take, slice_index, true, string_bytes, IfOk};
 ghost use Rattle.std.specs.Str.{str_to_ascii_lowercase, IsAscii};
 ghost use Rattle.xp_lexer.specs.Cutting as spec;
-ghost use Rattle.xp_lexer.specs.Lexemes.{seen};
+ghost use Rattle.xp_token.specs.Lexemes.{seen};
 
 use crate::bytes::is_name_byte;
-use crate::token::TokenKind;
 use crate::trouble::Trouble;
-use crate::words::word_named;
 use std::alloc::Global;
 use std::str;
 use xp_base::Name;
+use xp_token::{TokenKind, word_named};
 
 /// How many bytes of a name stand at the front.
 fn name_len(z: &[u8]) -> usize

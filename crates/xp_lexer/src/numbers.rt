@@ -3,11 +3,11 @@ ghost use Rattle.std.specs.Prelude.{◌≡◌, ◌+◌, ◌*◌, ◌^◌, ◌<�
 ghost use Rattle.std.specs.Char.{digit_value, is_digit};
 ghost use Rattle.xp_lexer.specs.Cutting as spec;
 ghost use Rattle.xp_lexer.specs.Meaning as meaning;
-ghost use Rattle.xp_lexer.specs.Lexemes.{seen};
+ghost use Rattle.xp_token.specs.Lexemes.{seen};
 
 use crate::bytes::{byte, is_decimal};
-use crate::token::TokenKind;
 use xp_base::{DIGIT_LIMIT, Dec};
+use xp_token::TokenKind;
 
 /// The least number of more than 38 digits, at which a value stands still.
 const FULL: u128 = 100_000_000_000_000_000_000_000_000_000_000_000_000;

@@ -4,14 +4,14 @@ ghost use Rattle.std.specs.Str.{IsAscii};
 ghost use Rattle.xp_lexer.specs.Bytes.{first, is_operator_byte};
 ghost use Rattle.xp_lexer.specs.Cutting as spec;
 ghost use Rattle.xp_lexer.specs.Meaning as meaning;
-ghost use Rattle.xp_lexer.specs.Lexemes.{seen};
+ghost use Rattle.xp_token.specs.Lexemes.{seen};
 
 use crate::bytes::{byte, is_free, is_operator_byte, is_sign, opens_comment};
 use crate::names::ascii;
-use crate::token::TokenKind;
 use crate::trouble::Trouble;
 use std::alloc::Global;
 use xp_base::Name;
+use xp_token::TokenKind;
 
 /// An operator goes on with this byte, before that one.
 fn goes_on(b: u8, next: u8) -> bool

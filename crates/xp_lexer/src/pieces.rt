@@ -3,7 +3,7 @@ ghost use Rattle.std.specs.Prelude.{◌≡◌, ◌<◌, ◌≤◌, ◌^◌, leng
 ghost use Rattle.xp_lexer.specs.Bytes.{first, begins_name};
 ghost use Rattle.xp_lexer.specs.Cutting as spec;
 ghost use Rattle.xp_lexer.specs.Meaning as meaning;
-ghost use Rattle.xp_lexer.specs.Lexemes.{seen};
+ghost use Rattle.xp_token.specs.Lexemes.{seen};
 
 use crate::bytes::{begins_name, byte, is_decimal, is_operator_byte, is_space, opens_comment};
 use crate::names::name;
@@ -11,9 +11,9 @@ use crate::numbers::number;
 use crate::operators::operator;
 use crate::quoted::{quoted_name, string};
 use crate::space::{comment_rest, line_rest};
-use crate::token::{Mark, TokenKind};
 use crate::trouble::Trouble;
 use std::alloc::Global;
+use xp_token::{Mark, TokenKind};
 
 /// A letter before a quote, or `u&` before one, for which no constant stands.
 #[tactic(auto, unfolding(crate::specs::Meaning::is_prefix))]

@@ -3,15 +3,15 @@ ghost use Rattle.std.specs.Prelude.{◌≡◌, ◌+◌, ◌<◌, ◌≤◌, ◌^
 ghost use Rattle.std.specs.Str.{IsUtf8};
 ghost use Rattle.xp_lexer.specs.Cutting as spec;
 ghost use Rattle.xp_lexer.specs.Meaning as meaning;
-ghost use Rattle.xp_lexer.specs.Lexemes.{seen};
+ghost use Rattle.xp_token.specs.Lexemes.{seen};
 
 use crate::bytes::byte;
 use crate::space::continued;
-use crate::token::TokenKind;
 use crate::trouble::Trouble;
 use std::alloc::Global;
 use std::str;
 use xp_base::{Name, Txt};
+use xp_token::TokenKind;
 
 /// How many bytes stand before the quote that ends what is quoted.
 fn raw_len(quote: u8, mut z: &[u8]) -> Option<usize>

@@ -1,7 +1,7 @@
 -- What is read of operators that group from the left.
 use Rattle.std.proofs.Common.{◌≡◌, ◌≤◌, Bool, true, false, ◌||◌, List, [], ◌∷◌, length, Option, Some, None, Ok, Err, refl, ap, subst, ◌∙◌, if◌then◌else◌}
 use Rattle.std.proofs.Math.Bool.{or-false}
-use Rattle.xp_lexer.specs.declared.token.Token.{Token}
+use Rattle.xp_token.specs.declared.token.Token.{Token}
 use Rattle.xp_grammar.specs.declared.kind.Kind.TheVariants as k
 use Rattle.xp_grammar.specs.declared.kind.Class.TheVariants.{Only}
 use Rattle.xp_grammar.specs.declared.ast.Ast.{Ast}

@@ -3,7 +3,7 @@ use Rattle.std.proofs.Common.{◌≡◌, ℕ, ◌+◌, ◌≤◌, ◌<◌, max, 
 use Rattle.std.specs.Prelude.{nat_lt}
 use Rattle.std.proofs.lemmas.Bool.Decides.{nat_tests}
 use Rattle.xp_base.specs.declared.limits.TheConstants.{DEPTH_LIMIT}
-use Rattle.xp_lexer.specs.declared.token.Token.{Token}
+use Rattle.xp_token.specs.declared.token.Token.{Token}
 use Rattle.xp_grammar.specs.declared.kind.Kind.{Kind}
 use Rattle.xp_grammar.specs.declared.kind.Kind.TheVariants as k
 use Rattle.xp_grammar.specs.Kinds.{kind}

@@ -1,10 +1,9 @@
 -- The tokens of a statement end in End.
 use Rattle.std.proofs.Common.{◌≡◌, true, not, List, [], ◌∷◌}
 use Rattle.std.proofs.lemmas.Bool.{and_parts}
-use Rattle.xp_lexer.specs.declared.token.Token.{Token}
-use Rattle.xp_lexer.specs.Cutting.{is_end}
-use Rattle.xp_lexer.specs.Ended.{is_ended}
-use Rattle.xp_lexer.specs.Lexemes.{seen, all_placed}
+use Rattle.xp_token.specs.declared.token.Token.{Token}
+use Rattle.xp_token.specs.Ended.{is_end, is_ended}
+use Rattle.xp_token.specs.Lexemes.{seen, all_placed}
 use Rattle.xp_parser.specs.Parses.{ends_in_end}
 
 pub ended_ends : (ts : List Token) → is_ended (all_placed ts) ≡ true → ends_in_end ts ≡ true

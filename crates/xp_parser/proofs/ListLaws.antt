@@ -1,6 +1,6 @@
 -- What is read of lists and arguments.
 use Rattle.std.proofs.Common.{◌≡◌, true, false, List, [], ◌∷◌, Ok}
-use Rattle.xp_lexer.specs.declared.token.Token.{Token}
+use Rattle.xp_token.specs.declared.token.Token.{Token}
 use Rattle.xp_grammar.specs.declared.ast.Ast.{Ast}
 use Rattle.xp_grammar.specs.Table.{Trees, Given, with_shown}
 use Rattle.xp_grammar.specs.Table.{Level as l}

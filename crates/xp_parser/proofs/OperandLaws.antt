@@ -1,6 +1,6 @@
 -- What is read of signs, casts and subscripts.
 use Rattle.std.proofs.Common.{◌≡◌, ℕ, zero, suc, ◌+◌, ◌-◌, ◌≤◌, ◌<◌, ◌==◌, Bool, true, false, ◌&&◌, List, [], ◌∷◌, length, take, Option, Some, None, Ok, Err, refl, sym, ap, subst, ◌∙◌, if◌then◌else◌, arith}
-use Rattle.xp_lexer.specs.declared.token.Token.{Token}
+use Rattle.xp_token.specs.declared.token.Token.{Token}
 use Rattle.xp_grammar.specs.declared.kind.Kind.TheVariants as k
 use Rattle.xp_grammar.specs.declared.kind.Class.{Class}
 use Rattle.xp_grammar.specs.declared.kind.Class.TheVariants.{Only}

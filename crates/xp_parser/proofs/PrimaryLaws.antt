@@ -1,6 +1,6 @@
 -- What is read of an operand without operators around it.
 use Rattle.std.proofs.Common.{◌≡◌, Bool, false, ◌||◌, List, [], arith}
-use Rattle.xp_lexer.specs.declared.token.Token.{Token}
+use Rattle.xp_token.specs.declared.token.Token.{Token}
 use Rattle.xp_grammar.specs.declared.kind.Kind.TheVariants as k
 use Rattle.xp_grammar.specs.declared.kind.Class.TheVariants.{Only}
 use Rattle.xp_grammar.specs.declared.ast.Arm.{Arm}

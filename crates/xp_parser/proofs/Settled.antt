@@ -3,7 +3,7 @@ use Rattle.std.proofs.Common.{◌≡◌, ℕ, zero, suc, ◌+◌, ◌-◌, ◌�
 use Rattle.std.proofs.Math.Seq.{take-append_seam}
 use Rattle.std.proofs.lemmas.List.{append_cancel_left}
 use Rattle.xp_base.specs.declared.limits.TheConstants.{DEPTH_LIMIT}
-use Rattle.xp_lexer.specs.declared.token.Token.{Token}
+use Rattle.xp_token.specs.declared.token.Token.{Token}
 use Rattle.xp_grammar.specs.Table.{Value, Stated}
 use Rattle.xp_grammar.specs.Reads.{IsStatement, IsFront, Stuck, Fault, read}
 use Rattle.xp_grammar.proofs.Complete.{same_head}

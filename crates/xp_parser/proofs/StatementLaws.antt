@@ -1,6 +1,6 @@
 -- What is read of a statement outside its expressions, and of a whole list of tokens.
 use Rattle.std.proofs.Common.{◌≡◌, ℕ, ◌<◌, List, [], ◌∷◌, length, slice_get, Option, Some, None, Ok, Err, refl, ap, ◌∙◌, arith}
-use Rattle.xp_lexer.specs.declared.token.Token.{Token}
+use Rattle.xp_token.specs.declared.token.Token.{Token}
 use Rattle.xp_grammar.specs.declared.kind.Kind.TheVariants as k
 use Rattle.xp_grammar.specs.declared.kind.Class.TheVariants.{Only}
 use Rattle.xp_grammar.specs.declared.ast.Ast.{Ast}

@@ -1,7 +1,7 @@
 -- Reading in steps: what is left, and steps that are alike.
 use Rattle.std.proofs.Common.{◌≡◌, Bool, true, false, List, [], ◌∷◌, Option, Some, None, Ok, Err, refl, ap, ◌∙◌, if◌then◌else◌, arith}
 use denote.Ref.{Bor}
-use Rattle.xp_lexer.specs.declared.token.Token.{Token}
+use Rattle.xp_token.specs.declared.token.Token.{Token}
 use Rattle.xp_grammar.specs.declared.kind.Class.{Class}
 use Rattle.xp_grammar.specs.declared.ast.Ast.{Ast}
 use Rattle.xp_grammar.specs.declared.kind.Kind.{Kind}

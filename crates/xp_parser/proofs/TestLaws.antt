@@ -1,6 +1,6 @@
 -- What is read of NOT, tests, comparisons and ranges.
 use Rattle.std.proofs.Common.{◌≡◌, List}
-use Rattle.xp_lexer.specs.declared.token.Token.{Token}
+use Rattle.xp_token.specs.declared.token.Token.{Token}
 use Rattle.xp_grammar.specs.Table.{Level as l}
 use Rattle.xp_grammar.specs.Machine.{onward, parse}
 use Rattle.xp_grammar.proofs.Straight.{reach, parse_straight}

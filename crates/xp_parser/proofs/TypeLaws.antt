@@ -1,6 +1,6 @@
 -- What is read of a type, as the functions go.
 use Rattle.std.proofs.Common.{◌≡◌, List}
-use Rattle.xp_lexer.specs.declared.token.Token.{Token}
+use Rattle.xp_token.specs.declared.token.Token.{Token}
 use Rattle.xp_grammar.specs.declared.types.TypeWords.{TypeWords}
 use Rattle.xp_grammar.specs.Table.{Named}
 use Rattle.xp_grammar.specs.Table.{Level as l}

@@ -6,7 +6,7 @@
 -- At the end of a list all open groups are closed, and a closing token where no group is open counts nothing.
 use Rattle.std.specs.Prelude.{ℕ, ◌+◌, max, nat_lt, List, [], ◌∷◌, reverse, Option, Some, None, if◌then◌else◌}
 use Rattle.xp_base.specs.declared.limits.TheConstants.{DEPTH_LIMIT}
-use Rattle.xp_lexer.specs.declared.token.Token.{Token}
+use Rattle.xp_token.specs.declared.token.Token.{Token}
 use Rattle.xp_grammar.specs.declared.kind.Kind.{Kind}
 use Rattle.xp_grammar.specs.declared.kind.Kind.TheVariants as k
 use Rattle.xp_grammar.specs.Kinds.{kind, same}

@@ -2,9 +2,9 @@
 use Rattle.std.specs.Prelude.{◌≡◌, ℕ, zero, suc, ◌+◌, ◌-◌, ◌≤◌, ◌<◌, Bool, false, List, [], ◌∷◌, ◌++◌, length, take, slice_get, Option, Some, None, Result, Ok, Err}
 use Rattle.std.specs.Option.{option_map_or}
 use Rattle.xp_base.specs.declared.limits.TheConstants.{DEPTH_LIMIT}
-use Rattle.xp_lexer.specs.declared.token.Token.{Token}
-use Rattle.xp_lexer.specs.Cutting.{is_end}
-use Rattle.xp_lexer.specs.Lexemes.{seen}
+use Rattle.xp_token.specs.declared.token.Token.{Token}
+use Rattle.xp_token.specs.Ended.{is_end}
+use Rattle.xp_token.specs.Lexemes.{seen}
 use Rattle.xp_grammar.specs.declared.statement.Statement.{Statement}
 use Rattle.xp_grammar.specs.Table.{Value, Stated}
 use Rattle.xp_grammar.specs.Reads.{IsStatement, IsFront, Stuck, read}

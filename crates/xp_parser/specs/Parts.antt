@@ -1,7 +1,7 @@
 -- What is read of each part of a statement, as the functions go (manual 4.1.6 and 4.2).
 use Rattle.std.specs.Prelude.{suc, Bool, true, false, ◌&&◌, ◌==◌, if◌then◌else◌, List, [], ◌∷◌, length, Option, Some, None}
 use Rattle.xp_base.specs.declared.numbers.Span.{Span}
-use Rattle.xp_lexer.specs.declared.token.Token.{Token}
+use Rattle.xp_token.specs.declared.token.Token.{Token}
 use Rattle.xp_grammar.specs.declared.kind.Kind.TheVariants as k
 use Rattle.xp_grammar.specs.declared.kind.Class.{Class}
 use Rattle.xp_grammar.specs.declared.kind.Class.TheVariants.{Only, Names, Plains, Moments, Zoned, Truths, Constants, Likes, Choices, Sides, Fields}

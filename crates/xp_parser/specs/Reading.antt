@@ -1,7 +1,7 @@
 -- What a function that reads ensures: what is read by the grammar, unless memory ran out (manual 4.1).
 use Rattle.std.specs.Prelude.{◌≡◌, ℕ, List, Option, Some, None, Result, Ok, Err}
 use denote.Ref.{Bor}
-use Rattle.xp_lexer.specs.declared.token.Token.{Token}
+use Rattle.xp_token.specs.declared.token.Token.{Token}
 use Rattle.xp_grammar.specs.declared.statement.Statement.{Statement}
 use Rattle.xp_grammar.specs.Table.{Value, Stated}
 use Rattle.xp_grammar.specs.Machine.{Outcome}

@@ -1,6 +1,6 @@
 -- What is read of each part of a statement outside its expressions, as the functions go (manual 7.3, 7.4 and 7.7).
 use Rattle.std.specs.Prelude.{List, [], ◌∷◌}
-use Rattle.xp_lexer.specs.declared.token.Token.{Token}
+use Rattle.xp_token.specs.declared.token.Token.{Token}
 use Rattle.xp_grammar.specs.declared.kind.Kind.TheVariants as k
 use Rattle.xp_grammar.specs.declared.kind.Class.TheVariants.{Only, Names}
 use Rattle.xp_grammar.specs.declared.ast.Ast.{Ast}

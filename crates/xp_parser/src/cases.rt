@@ -12,7 +12,7 @@ use crate::trouble::Trouble;
 use sqlite_items::{Boxed, Items};
 use std::alloc::Global;
 use xp_grammar::{Arm, Ast, Class, Kind};
-use xp_lexer::Token;
+use xp_token::Token;
 
 impl<F: Fn(Global, Nested, &mut Cursor<'_>) -> Result<Boxed<Ast>, Trouble>> Grammar<F> {
     /// Behind the word CASE.

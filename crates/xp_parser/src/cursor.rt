@@ -7,7 +7,7 @@ ghost use Rattle.xp_parser.specs.Reading.{Eats, Reads, seen};
 use crate::trouble::Trouble;
 use std::marker::Model;
 use xp_grammar::{Class, Kind, token_kind};
-use xp_lexer::Token;
+use xp_token::Token;
 
 #[derive(Drop)]
 pub(crate) struct Cursor<'a> {
@@ -17,8 +17,8 @@ pub(crate) struct Cursor<'a> {
 impl<'a> Model for Cursor<'a> {
     ghost use Rattle.std.specs.Prelude.{List};
     ghost use Rattle.std.specs.Coded.{coded_list};
-    ghost use Rattle.xp_lexer.specs.declared.token.Token.{Token as TheToken};
-    ghost use Rattle.xp_lexer.specs.contracts.token.Token.{the_row};
+    ghost use Rattle.xp_token.specs.declared.token.Token.{Token as TheToken};
+    ghost use Rattle.xp_token.specs.contracts.token.Token.{the_row};
 
     ghost Value = { List TheToken };
 

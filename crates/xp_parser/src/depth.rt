@@ -6,7 +6,7 @@ ghost use Rattle.xp_base.specs.declared.limits.TheConstants.{DEPTH_LIMIT};
 use std::alloc::{AllocError, Global};
 use xp_base::DEPTH_LIMIT;
 use xp_grammar::{Kind, token_kind};
-use xp_lexer::Token;
+use xp_token::Token;
 
 /// What a token does to the depth.
 #[derive(Clone, Copy, Debug)]

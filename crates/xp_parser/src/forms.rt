@@ -13,7 +13,7 @@ use sqlite_items::{Boxed, Items};
 use std::alloc::Global;
 use xp_base::Span;
 use xp_grammar::{Ast, Class, Kind, Side};
-use xp_lexer::Token;
+use xp_token::Token;
 
 impl<F: Fn(Global, Nested, &mut Cursor<'_>) -> Result<Boxed<Ast>, Trouble>> Grammar<F> {
     /// NULLIF, ARRAY, POSITION, SUBSTRING, TRIM or EXTRACT.

@@ -5,7 +5,7 @@ ghost use Rattle.xp_grammar.specs.Table as table;
 use std::alloc::Global;
 use xp_base::{Memory, Name, Txt};
 use xp_grammar::{Ast, Choice, Kind, Moment, Side, Truth, TypeModifier, TypeName, token_kind};
-use xp_lexer::{Token, TokenKind, Word};
+use xp_token::{Token, TokenKind, Word};
 
 /// The characters of a name, an operator or a string.
 fn letters(token: &Token) -> &str

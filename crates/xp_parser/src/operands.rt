@@ -15,7 +15,7 @@ use sqlite_items::Boxed;
 use std::alloc::{AllocError, Global};
 use xp_base::Span;
 use xp_grammar::{Ast, Class, Kind, TypeWords};
-use xp_lexer::Token;
+use xp_token::Token;
 
 /// What was read of an operand. Where it ends in a type, brackets may still go on with that.
 #[derive(Drop)]

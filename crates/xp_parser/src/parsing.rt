@@ -9,7 +9,7 @@ use crate::reading::whole;
 use crate::trouble::Trouble;
 use std::alloc::Global;
 use xp_grammar::Statement;
-use xp_lexer::{Token, Tokens};
+use xp_token::{Token, Tokens};
 
 /// The byte at which the token at this place begins.
 fn start_at(tokens: &[Token], place: usize) -> u32

@@ -13,7 +13,7 @@ use crate::trouble::Trouble;
 use sqlite_items::Boxed;
 use std::alloc::{AllocError, Global};
 use xp_grammar::{Ast, Class, Kind, Truth};
-use xp_lexer::Token;
+use xp_token::Token;
 
 impl<F: Fn(Global, Nested, &mut Cursor<'_>) -> Result<Boxed<Ast>, Trouble>> Grammar<F> {
     #[tactic(auto, using(crate::proofs::TestLaws::not_is), unfolding(crate::specs::Parts::not_part))]

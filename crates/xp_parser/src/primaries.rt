@@ -15,7 +15,7 @@ use sqlite_items::{Boxed, Items};
 use std::alloc::Global;
 use xp_base::Memory;
 use xp_grammar::{Ast, Class, Kind, TypeModifier, TypeWords};
-use xp_lexer::Token;
+use xp_token::Token;
 
 impl<F: Fn(Global, Nested, &mut Cursor<'_>) -> Result<Boxed<Ast>, Trouble>> Grammar<F> {
     /// An operand without operators around it.

@@ -11,7 +11,7 @@ use crate::trouble::Trouble;
 use sqlite_items::Boxed;
 use std::alloc::Global;
 use xp_grammar::{Ast, Statement};
-use xp_lexer::Token;
+use xp_token::Token;
 
 /// An expression within another.
 fn read_nested(alloc: Global, which: Nested, tokens: &mut Cursor<'_>) -> Result<Boxed<Ast>, Trouble>

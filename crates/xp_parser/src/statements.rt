@@ -13,7 +13,7 @@ use crate::{held, types};
 use sqlite_items::{Boxed, Items};
 use std::alloc::Global;
 use xp_grammar::{Ast, Class, Exprs, Item, Kind, SelectArm, Statement};
-use xp_lexer::Token;
+use xp_token::Token;
 
 /// The statement of SELECTs with UNION ALL between.
 #[tactic(auto, using(crate::proofs::StatementLaws::selected_one, crate::proofs::StatementLaws::selected_more))]

@@ -11,7 +11,7 @@ use crate::trouble::Trouble;
 use std::alloc::Global;
 use xp_base::{Memory, Span};
 use xp_grammar::{Class, Kind, TypeModifier, TypeName, TypeWords};
-use xp_lexer::Token;
+use xp_token::Token;
 
 /// The name of a type, with the place of its first token.
 #[derive(Drop)]

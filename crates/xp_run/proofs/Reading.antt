@@ -3,9 +3,9 @@ use Rattle.std.proofs.Common.{◌≡◌, ◌==◌, false, List, length, refl, ar
 use Rattle.std.proofs.lemmas.Bool.Decides.{nat_tests}
 use Rattle.std.proofs.lemmas.List.{length-map}
 use Rattle.xp_catalog.specs.Contents.{Contents}
-use Rattle.xp_lexer.specs.declared.token.Token.{Token}
-use Rattle.xp_lexer.specs.Lexemes.{placed, all_placed}
-use Rattle.xp_lexer.proofs.Holding.{tokens_again}
+use Rattle.xp_token.specs.declared.token.Token.{Token}
+use Rattle.xp_token.specs.Lexemes.{placed, all_placed}
+use Rattle.xp_token.proofs.Holding.{tokens_again}
 use Rattle.xp_parser.specs.Parses.{parsed}
 use Rattle.xp_run.specs.Script.{parsed_answer, tokens_answer}
 

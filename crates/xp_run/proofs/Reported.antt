@@ -4,8 +4,8 @@ use Rattle.std.specs.Option.{option_map}
 use Rattle.xp_base.specs.declared.numbers.Span.{Span}
 use Rattle.xp_lexer.specs.Cutting.{name, decimals, fraction, sign, exponent_digits, exponent_at, raised, decimal_of, decimal, number, cut, part, string, word, operator, mark_at, token, comment, piece, admitted, statement, lexed}
 use Rattle.xp_lexer.specs.Meaning.{number_of, spelled, is_prefix}
-use Rattle.xp_lexer.specs.Words.{word_named}
-use Rattle.xp_lexer.specs.Held.{dec_of}
+use Rattle.xp_token.specs.Words.{word_named}
+use Rattle.xp_token.specs.Held.{dec_of}
 use Rattle.xp_grammar.specs.Machine.{first, symbol, walk, choose, onward, run, parse}
 use Rattle.xp_grammar.specs.Reads.{read}
 use Rattle.xp_grammar.specs.declared.ast.Ast.{Ast}

@@ -3,11 +3,11 @@ use Rattle.std.specs.Prelude.{ℕ, zero, suc, ◌==◌, nat_lt, List, [], ◌∷
 use Rattle.xp_base.specs.declared.codes.Code.TheVariants as code
 use Rattle.xp_catalog.specs.Contents.{Contents}
 use Rattle.xp_grammar.specs.declared.statement.Statement.{Statement}
-use Rattle.xp_lexer.specs.declared.token.LexFault.{LexFault}
-use Rattle.xp_lexer.specs.declared.token.LexFault.TheVariants as lexical
+use Rattle.xp_lexer.specs.declared.lexed.LexFault.{LexFault}
+use Rattle.xp_lexer.specs.declared.lexed.LexFault.TheVariants as lexical
 use Rattle.xp_lexer.specs.Cutting.{lexed}
-use Rattle.xp_lexer.specs.Held.{tokens_of}
-use Rattle.xp_lexer.specs.Lexemes.{Placed}
+use Rattle.xp_token.specs.Held.{tokens_of}
+use Rattle.xp_token.specs.Lexemes.{Placed}
 use Rattle.xp_parser.specs.declared.fault.ParseFault.{ParseFault}
 use Rattle.xp_parser.specs.declared.fault.ParseFault.TheVariants as fault
 use Rattle.xp_parser.specs.Parses.{parsed}

@@ -1,6 +1,6 @@
 //! What the statements of a script answer, one after the other.
 ghost use Rattle.std.specs.Prelude.{◌≡◌, ◌<◌, ◌≤◌, ◌^◌, ℕ, suc, length, true, Some, IfOk};
-ghost use Rattle.xp_lexer.specs.Lexemes.{all_placed};
+ghost use Rattle.xp_token.specs.Lexemes.{all_placed};
 ghost use Rattle.xp_parser.specs.Parses.{ends_in_end, parsed};
 ghost use Rattle.xp_run.specs.Script as spec;
 
@@ -8,8 +8,9 @@ use crate::answer::{Answer, answer_statement, refused};
 use std::alloc::{AllocError, Global};
 use xp_base::Code;
 use xp_catalog::Catalog;
-use xp_lexer::{LexFault, Tokens, lex};
+use xp_lexer::{LexFault, lex};
 use xp_parser::{ParseFault, parse};
+use xp_token::Tokens;
 
 /// What the statement at a place answers, if one stands there, and the place behind it.
 #[derive(Debug, Drop)]

@@ -1,6 +1,6 @@
 use Rattle.std.proofs.Common.{◌≡◌, ◌+◌, length, sym, ◌∙◌, ap, arith, length-append}
 use Rattle.std.proofs.lemmas.Result.{err_from_is_err_and}
-use Rattle.xp_lexer.specs.Lexemes.{seen}
+use Rattle.xp_token.specs.Lexemes.{seen}
 use Rattle.xp_lexer.proofs.Whole.{all_placed_push, turn_fails, turn_refuses, turn_ends, turn_goes, turn_skips, rest_within, gap_shorter, token_shorter, admitted_room}
 use Rattle.xp_lexer.proofs.lexing.statement.Goals as goal
 

@@ -2,7 +2,7 @@ use Rattle.std.proofs.Common.{refl}
 use Rattle.std.specs.Fmt.{digits}
 use Rattle.csv.specs.Writing.{is_blank, fields_text}
 use Rattle.xp_lexer.specs.Cutting.{piece, statement, lexed}
-use Rattle.xp_lexer.specs.Held.{dec_of}
+use Rattle.xp_token.specs.Held.{dec_of}
 use Rattle.xp_bodies.specs.Table.{arithmetic, bodies}
 use Rattle.xp_run.specs.Script.{answers}
 use Rattle.xp_run.proofs.Reported.{divides, raises, undefined, not_built, several, syntax_read, unclosed_read}

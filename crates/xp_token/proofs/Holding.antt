@@ -5,11 +5,11 @@ use Rattle.std.proofs.lemmas.Bool.{lt-ltb, le-leb, true≢false}
 use Rattle.std.proofs.Math.Path.{fun_ext}
 use Rattle.std.proofs.Math.Bridge.{le_prop}
 use Rattle.xp_base.specs.declared.decimal.Dec.{Dec}
-use Rattle.xp_lexer.specs.declared.token.Token.{Token}
-use Rattle.xp_lexer.specs.declared.token.TokenKind.{TokenKind}
-use Rattle.xp_lexer.specs.declared.token.TokenKind.TheVariants as kind
-use Rattle.xp_lexer.specs.Lexemes.{seen, placed, all_placed}
-use Rattle.xp_lexer.specs.Held.{dec_by, dec_of, kind_of, token_of, tokens_of}
+use Rattle.xp_token.specs.declared.token.Token.{Token}
+use Rattle.xp_token.specs.declared.token.TokenKind.{TokenKind}
+use Rattle.xp_token.specs.declared.token.TokenKind.TheVariants as kind
+use Rattle.xp_token.specs.Lexemes.{seen, placed, all_placed}
+use Rattle.xp_token.specs.Held.{dec_by, dec_of, kind_of, token_of, tokens_of}
 
 dec : (negative : Bool) (c s : ℕ) → c < 10 ^ 38 → s ≤ 38 → (negative ≡ true → 0 < c) → Dec
 dec negative c s p q r = record { neg = negative; coef = c; scale = s; digits = p; decimals = q; no_negative_zero = r }

@@ -2,10 +2,10 @@
 use Rattle.std.specs.Prelude.{◌≡◌, ℕ, ◌^◌, ◌<◌, Bool, true, false, not, ◌||◌, nat_lt, nat_le, List, map, refl}
 use Rattle.std.proofs.lemmas.Bool.{ltb-true, leb-true, false≢true}
 use Rattle.xp_base.specs.declared.decimal.Dec.{Dec}
-use Rattle.xp_lexer.specs.declared.token.Token.{Token}
-use Rattle.xp_lexer.specs.declared.token.TokenKind.{TokenKind}
-use Rattle.xp_lexer.specs.declared.token.TokenKind.TheVariants as kind
-use Rattle.xp_lexer.specs.Lexemes.{Lexeme, Placed, NameOf, QuotedName, Reserved, Constant, NumberOf, TooWide, OperatorOf, MarkOf, EndOf}
+use Rattle.xp_token.specs.declared.token.Token.{Token}
+use Rattle.xp_token.specs.declared.token.TokenKind.{TokenKind}
+use Rattle.xp_token.specs.declared.token.TokenKind.TheVariants as kind
+use Rattle.xp_token.specs.Lexemes.{Lexeme, Placed, NameOf, QuotedName, Reserved, Constant, NumberOf, TooWide, OperatorOf, MarkOf, EndOf}
 
 -- only what isn't zero is negative
 abbrev pub signed : (negative : Bool) (coefficient : ℕ) → (not negative || nat_lt 0 coefficient) ≡ true → negative ≡ true → 0 < coefficient

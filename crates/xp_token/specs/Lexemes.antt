@@ -1,24 +1,23 @@
 -- Tokens as plain data: what the tokens of a statement are, without the proofs that a number keeps (manual 4.1).
 use Rattle.std.specs.Prelude.{ℕ, Bool, List, map}
-use Rattle.xp_lexer.specs.Bytes.{Text}
-use Rattle.xp_lexer.specs.declared.words.Word.{Word}
-use Rattle.xp_lexer.specs.declared.token.Mark.{Mark}
-use Rattle.xp_lexer.specs.declared.token.Token.{Token}
-use Rattle.xp_lexer.specs.declared.token.TokenKind.{TokenKind}
-use Rattle.xp_lexer.specs.declared.token.TokenKind.TheVariants as kind
+use Rattle.xp_token.specs.declared.words.Word.{Word}
+use Rattle.xp_token.specs.declared.token.Mark.{Mark}
+use Rattle.xp_token.specs.declared.token.Token.{Token}
+use Rattle.xp_token.specs.declared.token.TokenKind.{TokenKind}
+use Rattle.xp_token.specs.declared.token.TokenKind.TheVariants as kind
 
 pub data Lexeme : Type 0 where
   -- an unquoted name in lower case, and a quoted one
-  NameOf : Text → Lexeme
-  QuotedName : Text → Lexeme
+  NameOf : List ℕ → Lexeme
+  QuotedName : List ℕ → Lexeme
   Reserved : Word → Lexeme
   -- the text of a string constant
-  Constant : Text → Lexeme
+  Constant : List ℕ → Lexeme
   -- negative or not, the coefficient, the scale, and whether the number is whole
   NumberOf : Bool → ℕ → ℕ → Bool → Lexeme
   -- a number of more than 38 digits or decimals
   TooWide : Lexeme
-  OperatorOf : Text → Lexeme
+  OperatorOf : List ℕ → Lexeme
   MarkOf : Mark → Lexeme
   EndOf : Lexeme
 

@@ -1,6 +1,6 @@
 //! The reserved words.
 ghost use Rattle.std.specs.Prelude.{◌≡◌, map};
-ghost use Rattle.xp_lexer.specs.Words as spec;
+ghost use Rattle.xp_token.specs.Words as spec;
 
 /// A word that is a name only in quotes.
 #[derive(Clone, Copy, Debug, PartialEq, Eq)]

@@ -1,8 +1,8 @@
 -- The reserved words, in lower case.
 use Rattle.std.specs.Prelude.{ℕ, List, [], ◌∷◌, codes, Option, Some, None, if◌then◌else◌}
 use Rattle.std.specs.Str.{bytes_eq}
-use Rattle.xp_lexer.specs.declared.words.Word.{Word}
-use Rattle.xp_lexer.specs.declared.words.Word.TheVariants as w
+use Rattle.xp_token.specs.declared.words.Word.{Word}
+use Rattle.xp_token.specs.declared.words.Word.TheVariants as w
 
 -- the words and how they are spelled
 abbrev pub words : List (List ℕ × Word)

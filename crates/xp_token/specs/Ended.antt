@@ -1,8 +1,11 @@
 -- What holds of the tokens of every statement: an End stands behind tokens that are none, and numbers have no sign (manual 4.1).
 use Rattle.std.specs.Prelude.{Bool, true, false, not, ◌&&◌, ◌||◌, ◌==◌, List, [], ◌∷◌}
 use Rattle.std.specs.List.{list_all}
-use Rattle.xp_lexer.specs.Lexemes.{Lexeme, Placed, NumberOf}
-use Rattle.xp_lexer.specs.Cutting.{is_end}
+use Rattle.xp_token.specs.Lexemes.{Lexeme, Placed, NumberOf, EndOf}
+
+abbrev pub is_end : Lexeme → Bool
+is_end EndOf = true
+is_end _ = false
 
 -- the last token is an End, and no other
 abbrev pub is_ended : List Placed → Bool

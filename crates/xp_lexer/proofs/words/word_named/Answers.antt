@@ -1,6 +1,0 @@
-use Rattle.xp_lexer.specs.Words.{word_named}
-use Rattle.xp_lexer.proofs.words.word_named.Goals as goal
-
-pub returns : goal.returns
-unfolding word_named
-returns c = c.lookup.ensures

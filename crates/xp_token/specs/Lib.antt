@@ -1,0 +1,4 @@
+pub mod Ended
+pub mod Held
+pub mod Lexemes
+pub mod Words
