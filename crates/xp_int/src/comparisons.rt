@@ -71,5 +71,5 @@ pub fn gt_bool(a: bool, b: bool) -> bool
 pub fn ge_bool(a: bool, b: bool) -> bool
     ensures { result ≡ is_ge (bool_cmp a b) }
 {
-    a >= b
+    b <= a
 }

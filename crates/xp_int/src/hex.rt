@@ -9,18 +9,14 @@ use xp_base::{Memory, Txt};
 pub fn to_hex_int4(alloc: Global, a: i32) -> Result<Txt, Memory>
     ensures { IfOk result (λ text. text ≡ hex int4 a) }
 {
-    match format!(in alloc; "{:x}", a.cast_unsigned()) {
-        Ok(text) => Ok(Txt::from_string(text)),
-        Err(_) => Err(Memory),
-    }
+    let digits = format!(in alloc; "{:x}", a.cast_unsigned())?;
+    Ok(Txt::from_string(digits))
 }
 
 /// The two's complement in hexadecimal digits.
 pub fn to_hex_int8(alloc: Global, a: i64) -> Result<Txt, Memory>
     ensures { IfOk result (λ text. text ≡ hex int8 a) }
 {
-    match format!(in alloc; "{:x}", a.cast_unsigned()) {
-        Ok(text) => Ok(Txt::from_string(text)),
-        Err(_) => Err(Memory),
-    }
+    let digits = format!(in alloc; "{:x}", a.cast_unsigned())?;
+    Ok(Txt::from_string(digits))
 }

@@ -1,4 +1,5 @@
-//! The functions and operators of the integer types and of boolean.
+//! The functions and operators of the integer types and of boolean (manual 9.1, 9.3, 9.4). It
+//! stands on xp_base, takes and gives Rust's own numbers, and knows nothing of values or nulls.
 #![tactic(auto)]
 
 mod arithmetic;
@@ -22,6 +23,3 @@ pub use comparisons::{
     ne_int,
 };
 pub use hex::{to_hex_int4, to_hex_int8};
-
-#[cfg(test)]
-mod tests;

@@ -40,9 +40,7 @@ pub fn copy_all(alloc: Global, values: &[Value]) -> Result<Array, Memory>
     let mut copies = Items::new(alloc);
     'values: for value in values {
         let copied = value.copy(alloc)?;
-        if copies.push(copied).is_err() {
-            return Err(Memory);
-        }
+        copies.push(copied)?;
     }
     Ok(copies)
 }
