@@ -15,7 +15,7 @@ pub implied_false : (a b : Bool) → implies a b ≡ true → b ≡ false → a 
 implied_false a b e h = grind arith
 
 abbrev pub kinds : List Kind
-kinds = k.Whole ∷ k.Decimal ∷ k.Wide ∷ k.String ∷ k.Name ∷ k.Double ∷ k.Precision ∷ k.Character ∷ k.Varying ∷ k.Timestamp ∷ k.Time ∷ k.With ∷ k.Without ∷ k.Zone ∷ k.Quoted ∷ k.All ∷ k.Analyze ∷ k.And ∷ k.Array ∷ k.As ∷ k.Between ∷ k.Both ∷ k.Case ∷ k.Cast ∷ k.Coalesce ∷ k.Describe ∷ k.Distinct ∷ k.Else ∷ k.End ∷ k.Explain ∷ k.Extract ∷ k.False ∷ k.For ∷ k.From ∷ k.Greatest ∷ k.Ilike ∷ k.In ∷ k.Is ∷ k.Isnull ∷ k.Leading ∷ k.Least ∷ k.Like ∷ k.Not ∷ k.Notnull ∷ k.Null ∷ k.Nullif ∷ k.Or ∷ k.Position ∷ k.Select ∷ k.Store ∷ k.Substring ∷ k.Then ∷ k.Trailing ∷ k.Trim ∷ k.True ∷ k.Union ∷ k.Unknown ∷ k.Values ∷ k.Variadic ∷ k.When ∷ k.Sign ∷ k.Times ∷ k.Power ∷ k.Compare ∷ k.Other ∷ k.Arrow ∷ k.Open ∷ k.Close ∷ k.OpenBracket ∷ k.CloseBracket ∷ k.Comma ∷ k.Typed ∷ k.Point ∷ k.Stop ∷ k.Nothing ∷ []
+kinds = k.Whole ∷ k.Decimal ∷ k.Wide ∷ k.String ∷ k.Name ∷ k.Double ∷ k.Precision ∷ k.Character ∷ k.Varying ∷ k.Timestamp ∷ k.Time ∷ k.With ∷ k.Without ∷ k.Zone ∷ k.Quoted ∷ k.All ∷ k.Analyze ∷ k.And ∷ k.Array ∷ k.As ∷ k.Between ∷ k.Both ∷ k.Case ∷ k.Cast ∷ k.Coalesce ∷ k.Describe ∷ k.Distinct ∷ k.Else ∷ k.End ∷ k.Explain ∷ k.Extract ∷ k.False ∷ k.For ∷ k.From ∷ k.Greatest ∷ k.Ilike ∷ k.In ∷ k.Is ∷ k.Isnull ∷ k.Leading ∷ k.Least ∷ k.Like ∷ k.Not ∷ k.Notnull ∷ k.Null ∷ k.Nullif ∷ k.Or ∷ k.Position ∷ k.Select ∷ k.Store ∷ k.Substring ∷ k.Then ∷ k.Trailing ∷ k.Trim ∷ k.True ∷ k.Union ∷ k.Unknown ∷ k.Values ∷ k.Variadic ∷ k.When ∷ k.Sign ∷ k.Times ∷ k.Power ∷ k.Compare ∷ k.Other ∷ k.Arrow ∷ k.Open ∷ k.Close ∷ k.OpenBracket ∷ k.CloseBracket ∷ k.Comma ∷ k.Typed ∷ k.Point ∷ k.EndOfStatement ∷ k.Nothing ∷ []
 
 abbrev pub nth : {A : Type 0} → ℕ → List A → Option A
 nth n [] = None
@@ -111,7 +111,7 @@ kind_at k.CloseBracket = refl
 kind_at k.Comma = refl
 kind_at k.Typed = refl
 kind_at k.Point = refl
-kind_at k.Stop = refl
+kind_at k.EndOfStatement = refl
 kind_at k.Nothing = refl
 
 pub every_at : (p : Kind → Bool) → every p ≡ true → (a : Kind) → p a ≡ true

@@ -89,7 +89,7 @@ sample_kind k.CloseBracket = t.Mark m.CloseBracket
 sample_kind k.Comma = t.Mark m.Comma
 sample_kind k.Typed = t.Mark m.DoubleColon
 sample_kind k.Point = t.Mark m.Point
-sample_kind k.Stop = t.End
+sample_kind k.EndOfStatement = t.End
 sample_kind k.Nothing = t.End
 
 abbrev pub sample : Kind → Token

@@ -10,7 +10,7 @@ use Rattle.xp_token.specs.declared.words.Word.TheVariants as w
 use Rattle.xp_grammar.specs.declared.kind.Kind.{Kind}
 use Rattle.xp_grammar.specs.declared.kind.Kind.TheVariants as k
 use Rattle.xp_grammar.specs.declared.kind.Class.{Class}
-use Rattle.xp_grammar.specs.declared.kind.Class.TheVariants.{Only, Names, Plains, Moments, Zoned, Truths, Constants, Likes, Choices, Sides, Fields}
+use Rattle.xp_grammar.specs.declared.kind.Class.TheVariants.{Only, Names, Plains, Moments, Zoned, TruthTests, Constants, Likes, Selections, Sides, Fields}
 
 -- the kind beside the first of the words that it is, or another
 abbrev pub spelled : List (List ℕ × Kind) → Kind → List ℕ → Kind
@@ -90,7 +90,7 @@ kind_of (t.Number value whole) = if whole then k.Whole else k.Decimal
 kind_of t.Wide = k.Wide
 kind_of (t.Operator name) = operator_kind name
 kind_of (t.Mark mark) = mark_kind mark
-kind_of t.End = k.Stop
+kind_of t.End = k.EndOfStatement
 
 abbrev pub kind : Token → Kind
 kind token = kind_of token.kind
@@ -174,7 +174,7 @@ code k.CloseBracket = 69
 code k.Comma = 70
 code k.Typed = 71
 code k.Point = 72
-code k.Stop = 73
+code k.EndOfStatement = 73
 code k.Nothing = 74
 
 abbrev pub same : Kind → Kind → Bool
@@ -191,9 +191,9 @@ has Names a = among a (k.Name ∷ k.Double ∷ k.Precision ∷ k.Character ∷ k
 has Plains a = among a (k.Name ∷ k.Precision ∷ k.Varying ∷ k.With ∷ k.Without ∷ k.Zone ∷ k.Quoted ∷ [])
 has Moments a = among a (k.Timestamp ∷ k.Time ∷ [])
 has Zoned a = among a (k.With ∷ k.Without ∷ [])
-has Truths a = among a (k.False ∷ k.Null ∷ k.True ∷ k.Unknown ∷ [])
+has TruthTests a = among a (k.False ∷ k.Null ∷ k.True ∷ k.Unknown ∷ [])
 has Constants a = among a (k.Whole ∷ k.Decimal ∷ k.Wide ∷ k.String ∷ k.False ∷ k.Null ∷ k.True ∷ [])
 has Likes a = among a (k.Ilike ∷ k.Like ∷ [])
-has Choices a = among a (k.Coalesce ∷ k.Greatest ∷ k.Least ∷ [])
+has Selections a = among a (k.Coalesce ∷ k.Greatest ∷ k.Least ∷ [])
 has Sides a = among a (k.Both ∷ k.Leading ∷ k.Trailing ∷ [])
 has Fields a = among a (k.String ∷ k.Name ∷ k.Double ∷ k.Precision ∷ k.Character ∷ k.Varying ∷ k.Timestamp ∷ k.Time ∷ k.With ∷ k.Without ∷ k.Zone ∷ k.Quoted ∷ [])

@@ -3,7 +3,7 @@ use Rattle.std.specs.Prelude.{ℕ, zero, suc, ◌+◌, ◌*◌, ◌-◌, take, B
 use Rattle.xp_token.specs.declared.token.Token.{Token}
 use Rattle.xp_grammar.specs.declared.kind.Kind.{Kind}
 use Rattle.xp_grammar.specs.declared.kind.Class.{Class}
-use Rattle.xp_grammar.specs.declared.kind.Class.TheVariants.{Names, Plains, Moments, Zoned, Truths, Constants, Likes, Choices, Sides, Fields}
+use Rattle.xp_grammar.specs.declared.kind.Class.TheVariants.{Names, Plains, Moments, Zoned, TruthTests, Constants, Likes, Selections, Sides, Fields}
 use Rattle.xp_grammar.specs.Kinds.{kind, ahead, has, among}
 use Rattle.xp_grammar.specs.declared.kind.Kind.TheVariants as k
 use Rattle.xp_grammar.specs.Table.{Level, Sym, Tok, Lev, tok, Value, Word, Start, Tail, is_open, made, joined}
@@ -72,7 +72,7 @@ trie l.Shown = to (Lev l.E0) (ends s.first_shown)
 trie l.E0 = to (Lev l.E1) (ends s.one_or)
 trie l.E1 = to (Lev l.E2) (ends s.one_and)
 trie l.E2 = node None (edge (tok k.Not) (to (Lev l.E2) (ends s.not)) (edge (Lev l.E3) (ends s.not_free) stop))
-trie l.E3 = to (Lev l.E4) (node (Some s.test_free) (edge (tok k.Is) (node None (edge (tok k.Not) (node None (edge (Tok Truths) (ends s.is_not_truth) (edge (tok k.Distinct) (to (tok k.From) (to (Lev l.E4) (ends s.is_not_distinct))) stop))) (edge (Tok Truths) (ends s.is_truth) (edge (tok k.Distinct) (to (tok k.From) (to (Lev l.E4) (ends s.is_distinct))) stop)))) (edge (tok k.Isnull) (ends s.isnull) (edge (tok k.Notnull) (ends s.notnull) stop))))
+trie l.E3 = to (Lev l.E4) (node (Some s.test_free) (edge (tok k.Is) (node None (edge (tok k.Not) (node None (edge (Tok TruthTests) (ends s.is_not_truth) (edge (tok k.Distinct) (to (tok k.From) (to (Lev l.E4) (ends s.is_not_distinct))) stop))) (edge (Tok TruthTests) (ends s.is_truth) (edge (tok k.Distinct) (to (tok k.From) (to (Lev l.E4) (ends s.is_distinct))) stop)))) (edge (tok k.Isnull) (ends s.isnull) (edge (tok k.Notnull) (ends s.notnull) stop))))
 trie l.E4 = to (Lev l.E5) (node (Some s.compare_free) (edge (tok k.Compare) (to (Lev l.E5) (ends s.compared)) stop))
 trie l.E5 = to (Lev l.E6) (node (Some s.range_free) (edge (tok k.Not) (node None (edge (tok k.Between) (to (Lev l.E6) (to (tok k.And) (to (Lev l.E6) (ends s.not_between)))) (edge (tok k.In) (to (tok k.Open) (to (Lev l.Shown) (to (tok k.Close) (ends s.not_within)))) (edge (Tok Likes) (to (Lev l.E6) (ends s.not_like)) stop)))) (edge (tok k.Between) (to (Lev l.E6) (to (tok k.And) (to (Lev l.E6) (ends s.between)))) (edge (tok k.In) (to (tok k.Open) (to (Lev l.Shown) (to (tok k.Close) (ends s.within)))) (edge (Tok Likes) (to (Lev l.E6) (ends s.like)) stop)))))
 trie l.E6 = node None (edge (Lev l.P) (ends s.other_prefix) (edge (Lev l.E7) (ends s.other_free) stop))
@@ -82,7 +82,7 @@ trie l.E8 = to (Lev l.E9) (ends s.one_product)
 trie l.E9 = to (Lev l.E10) (ends s.one_power)
 trie l.E10 = node None (edge (tok k.Sign) (to (Lev l.E10) (ends s.signed)) (edge (Lev l.E11) (ends s.sign_free) stop))
 trie l.E11 = to (Lev l.E12) (ends s.operand)
-trie l.E12 = node None (edge (Tok Constants) (ends s.constant) (edge (Tok Names) (node (Some s.column) (edge (tok k.String) (ends s.typed_constant) (edge (tok k.Open) (node None (edge (tok k.Close) (ends s.called_empty) (edge (Lev l.Args) (to (tok k.Close) (ends s.called)) stop))) stop))) (edge (tok k.Open) (to (Lev l.E0) (to (tok k.Close) (ends s.group))) (edge (tok k.Cast) (to (tok k.Open) (to (Lev l.E0) (to (tok k.As) (to (Lev l.Full) (to (tok k.Close) (ends s.cast_as)))))) (edge (tok k.Case) (node None (edge (Lev l.Arms) (node None (edge (tok k.Else) (to (Lev l.E0) (to (tok k.End) (ends s.cases_else))) (edge (tok k.End) (ends s.cases) stop))) (edge (Lev l.E0) (to (Lev l.Arms) (node None (edge (tok k.Else) (to (Lev l.E0) (to (tok k.End) (ends s.cases_of_else))) (edge (tok k.End) (ends s.cases_of) stop)))) stop))) (edge (Tok Choices) (to (tok k.Open) (to (Lev l.Shown) (to (tok k.Close) (ends s.choice)))) (edge (tok k.Nullif) (to (tok k.Open) (to (Lev l.E0) (to (tok k.Comma) (to (Lev l.E0) (to (tok k.Close) (ends s.nullif)))))) (edge (tok k.Array) (to (tok k.OpenBracket) (node None (edge (tok k.CloseBracket) (ends s.array_empty) (edge (Lev l.Shown) (to (tok k.CloseBracket) (ends s.array)) stop)))) (edge (tok k.Position) (to (tok k.Open) (to (Lev l.E6) (to (tok k.In) (to (Lev l.E6) (to (tok k.Close) (ends s.position)))))) (edge (tok k.Substring) (to (tok k.Open) (to (Lev l.E0) (node None (edge (tok k.Comma) (to (Lev l.Shown) (to (tok k.Close) (ends s.substring_more))) (edge (tok k.From) (to (Lev l.E0) (node None (edge (tok k.For) (to (Lev l.E0) (to (tok k.Close) (ends s.substring_from_for))) (edge (tok k.Close) (ends s.substring_from) stop)))) (edge (tok k.For) (to (Lev l.E0) (to (tok k.Close) (ends s.substring_for))) (edge (tok k.Close) (ends s.substring_one) stop))))))) (edge (tok k.Trim) (to (tok k.Open) (node None (edge (Tok Sides) (node None (edge (tok k.From) (to (Lev l.E0) (to (tok k.Close) (ends s.trim_side_from))) (edge (Lev l.E0) (node None (edge (tok k.From) (to (Lev l.E0) (to (tok k.Close) (ends s.trim_side_set_from))) (edge (tok k.Comma) (to (Lev l.E0) (to (tok k.Close) (ends s.trim_side_set))) (edge (tok k.Close) (ends s.trim_side) stop)))) stop))) (edge (tok k.From) (to (Lev l.E0) (to (tok k.Close) (ends s.trim_from))) (edge (Lev l.E0) (node None (edge (tok k.From) (to (Lev l.E0) (to (tok k.Close) (ends s.trim_set_from))) (edge (tok k.Comma) (to (Lev l.E0) (to (tok k.Close) (ends s.trim_set))) (edge (tok k.Close) (ends s.trim) stop)))) stop))))) (edge (tok k.Extract) (to (tok k.Open) (to (Tok Fields) (to (tok k.From) (to (Lev l.E0) (to (tok k.Close) (ends s.extract)))))) stop))))))))))))
+trie l.E12 = node None (edge (Tok Constants) (ends s.constant) (edge (Tok Names) (node (Some s.column) (edge (tok k.String) (ends s.typed_constant) (edge (tok k.Open) (node None (edge (tok k.Close) (ends s.called_empty) (edge (Lev l.Args) (to (tok k.Close) (ends s.called)) stop))) stop))) (edge (tok k.Open) (to (Lev l.E0) (to (tok k.Close) (ends s.paren))) (edge (tok k.Cast) (to (tok k.Open) (to (Lev l.E0) (to (tok k.As) (to (Lev l.Full) (to (tok k.Close) (ends s.cast_as)))))) (edge (tok k.Case) (node None (edge (Lev l.Arms) (node None (edge (tok k.Else) (to (Lev l.E0) (to (tok k.End) (ends s.cases_else))) (edge (tok k.End) (ends s.cases) stop))) (edge (Lev l.E0) (to (Lev l.Arms) (node None (edge (tok k.Else) (to (Lev l.E0) (to (tok k.End) (ends s.cases_of_else))) (edge (tok k.End) (ends s.cases_of) stop)))) stop))) (edge (Tok Selections) (to (tok k.Open) (to (Lev l.Shown) (to (tok k.Close) (ends s.selection)))) (edge (tok k.Nullif) (to (tok k.Open) (to (Lev l.E0) (to (tok k.Comma) (to (Lev l.E0) (to (tok k.Close) (ends s.nullif)))))) (edge (tok k.Array) (to (tok k.OpenBracket) (node None (edge (tok k.CloseBracket) (ends s.array_empty) (edge (Lev l.Shown) (to (tok k.CloseBracket) (ends s.array)) stop)))) (edge (tok k.Position) (to (tok k.Open) (to (Lev l.E6) (to (tok k.In) (to (Lev l.E6) (to (tok k.Close) (ends s.position)))))) (edge (tok k.Substring) (to (tok k.Open) (to (Lev l.E0) (node None (edge (tok k.Comma) (to (Lev l.Shown) (to (tok k.Close) (ends s.substring_more))) (edge (tok k.From) (to (Lev l.E0) (node None (edge (tok k.For) (to (Lev l.E0) (to (tok k.Close) (ends s.substring_from_for))) (edge (tok k.Close) (ends s.substring_from) stop)))) (edge (tok k.For) (to (Lev l.E0) (to (tok k.Close) (ends s.substring_for))) (edge (tok k.Close) (ends s.substring_one) stop))))))) (edge (tok k.Trim) (to (tok k.Open) (node None (edge (Tok Sides) (node None (edge (tok k.From) (to (Lev l.E0) (to (tok k.Close) (ends s.trim_side_from))) (edge (Lev l.E0) (node None (edge (tok k.From) (to (Lev l.E0) (to (tok k.Close) (ends s.trim_side_set_from))) (edge (tok k.Comma) (to (Lev l.E0) (to (tok k.Close) (ends s.trim_side_set))) (edge (tok k.Close) (ends s.trim_side) stop)))) stop))) (edge (tok k.From) (to (Lev l.E0) (to (tok k.Close) (ends s.trim_from))) (edge (Lev l.E0) (node None (edge (tok k.From) (to (Lev l.E0) (to (tok k.Close) (ends s.trim_set_from))) (edge (tok k.Comma) (to (Lev l.E0) (to (tok k.Close) (ends s.trim_set))) (edge (tok k.Close) (ends s.trim) stop)))) stop))))) (edge (tok k.Extract) (to (tok k.Open) (to (Tok Fields) (to (tok k.From) (to (Lev l.E0) (to (tok k.Close) (ends s.extract)))))) stop))))))))))))
 trie l.Args = node None (edge (tok k.Variadic) (to (Lev l.E0) (ends s.variadic)) (edge (Lev l.E0) (ends s.one_arg) stop))
 trie l.Arms = to (tok k.When) (to (Lev l.E0) (to (tok k.Then) (to (Lev l.E0) (ends s.first_arm))))
 trie l.Full = to (Lev l.Basic) (ends s.full_basic)

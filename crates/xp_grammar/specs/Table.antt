@@ -8,7 +8,7 @@ use Rattle.xp_token.specs.declared.words.Word.TheVariants as w
 use Rattle.xp_grammar.specs.declared.kind.Kind.{Kind}
 use Rattle.xp_grammar.specs.declared.kind.Kind.TheVariants as k
 use Rattle.xp_grammar.specs.declared.kind.Class.{Class}
-use Rattle.xp_grammar.specs.declared.kind.Class.TheVariants.{Only, Names, Plains, Moments, Zoned, Truths, Constants, Likes, Choices, Sides, Fields}
+use Rattle.xp_grammar.specs.declared.kind.Class.TheVariants.{Only, Names, Plains, Moments, Zoned, TruthTests, Constants, Likes, Selections, Sides, Fields}
 use Rattle.xp_grammar.specs.declared.types.Moment.{Moment}
 use Rattle.xp_grammar.specs.declared.types.Moment.TheVariants as moment
 use Rattle.xp_grammar.specs.declared.types.TypeName.{TypeName}
@@ -16,10 +16,10 @@ use Rattle.xp_grammar.specs.declared.types.TypeName.TheVariants as name
 use Rattle.xp_grammar.specs.declared.types.TypeModifier.{TypeModifier}
 use Rattle.xp_grammar.specs.declared.types.TypeModifier.TheVariants as modifier
 use Rattle.xp_grammar.specs.declared.types.TypeWords.{TypeWords}
-use Rattle.xp_grammar.specs.declared.ast.Truth.{Truth}
-use Rattle.xp_grammar.specs.declared.ast.Truth.TheVariants as truth
-use Rattle.xp_grammar.specs.declared.ast.Choice.{Choice}
-use Rattle.xp_grammar.specs.declared.ast.Choice.TheVariants as choices
+use Rattle.xp_grammar.specs.declared.ast.TruthTest.{TruthTest}
+use Rattle.xp_grammar.specs.declared.ast.TruthTest.TheVariants as tests
+use Rattle.xp_grammar.specs.declared.ast.Selection.{Selection}
+use Rattle.xp_grammar.specs.declared.ast.Selection.TheVariants as selections
 use Rattle.xp_grammar.specs.declared.ast.Side.{Side}
 use Rattle.xp_grammar.specs.declared.ast.Side.TheVariants as sides
 use Rattle.xp_grammar.specs.declared.ast.Ast.{Ast}
@@ -62,7 +62,7 @@ pub data Value : Type 0 where
 
 -- the lines that don't begin with their own level
 pub data Start : Type 0 where
-  selects values store describe explain explain_analyze select first_item item item_as first_row first_shown one_or one_and not_free not test_free is_truth is_not_truth isnull notnull is_distinct is_not_distinct compare_free compared range_free between not_between within not_within like not_like other_free other_prefix prefix prefix_prefix one_sum one_product one_power sign_free signed operand constant column typed_constant called_empty called group cast_as cases cases_else cases_of cases_of_else choice nullif array_empty array position substring_one substring_more substring_from substring_from_for substring_for trim_from trim_set_from trim_side_from trim_side_set_from trim trim_set trim_side trim_side_set extract one_arg variadic first_arm full_basic basic basic_sized basic_scaled plain_type double_type double_precision character_type character_varying moment_type moment_zoned : Start
+  selects values store describe explain explain_analyze select first_item item item_as first_row first_shown one_or one_and not_free not test_free is_truth is_not_truth isnull notnull is_distinct is_not_distinct compare_free compared range_free between not_between within not_within like not_like other_free other_prefix prefix prefix_prefix one_sum one_product one_power sign_free signed operand constant column typed_constant called_empty called paren cast_as cases cases_else cases_of cases_of_else selection nullif array_empty array position substring_one substring_more substring_from substring_from_for substring_for trim_from trim_set_from trim_side_from trim_side_set_from trim trim_set trim_side trim_side_set extract one_arg variadic first_arm full_basic basic basic_sized basic_scaled plain_type double_type double_precision character_type character_varying moment_type moment_zoned : Start
 
 -- the lines that do
 pub data Tail : Type 0 where
@@ -116,13 +116,13 @@ level column = E12
 level typed_constant = E12
 level called_empty = E12
 level called = E12
-level group = E12
+level paren = E12
 level cast_as = E12
 level cases = E12
 level cases_else = E12
 level cases_of = E12
 level cases_of_else = E12
-level choice = E12
+level selection = E12
 level nullif = E12
 level array_empty = E12
 level array = E12
@@ -174,8 +174,8 @@ parts one_and = Lev E2 ∷ []
 parts not_free = Lev E3 ∷ []
 parts not = tok k.Not ∷ Lev E2 ∷ []
 parts test_free = Lev E4 ∷ []
-parts is_truth = Lev E4 ∷ tok k.Is ∷ Tok Truths ∷ []
-parts is_not_truth = Lev E4 ∷ tok k.Is ∷ tok k.Not ∷ Tok Truths ∷ []
+parts is_truth = Lev E4 ∷ tok k.Is ∷ Tok TruthTests ∷ []
+parts is_not_truth = Lev E4 ∷ tok k.Is ∷ tok k.Not ∷ Tok TruthTests ∷ []
 parts isnull = Lev E4 ∷ tok k.Isnull ∷ []
 parts notnull = Lev E4 ∷ tok k.Notnull ∷ []
 parts is_distinct = Lev E4 ∷ tok k.Is ∷ tok k.Distinct ∷ tok k.From ∷ Lev E4 ∷ []
@@ -204,13 +204,13 @@ parts column = Tok Names ∷ []
 parts typed_constant = Tok Names ∷ tok k.String ∷ []
 parts called_empty = Tok Names ∷ tok k.Open ∷ tok k.Close ∷ []
 parts called = Tok Names ∷ tok k.Open ∷ Lev Args ∷ tok k.Close ∷ []
-parts group = tok k.Open ∷ Lev E0 ∷ tok k.Close ∷ []
+parts paren = tok k.Open ∷ Lev E0 ∷ tok k.Close ∷ []
 parts cast_as = tok k.Cast ∷ tok k.Open ∷ Lev E0 ∷ tok k.As ∷ Lev Full ∷ tok k.Close ∷ []
 parts cases = tok k.Case ∷ Lev Arms ∷ tok k.End ∷ []
 parts cases_else = tok k.Case ∷ Lev Arms ∷ tok k.Else ∷ Lev E0 ∷ tok k.End ∷ []
 parts cases_of = tok k.Case ∷ Lev E0 ∷ Lev Arms ∷ tok k.End ∷ []
 parts cases_of_else = tok k.Case ∷ Lev E0 ∷ Lev Arms ∷ tok k.Else ∷ Lev E0 ∷ tok k.End ∷ []
-parts choice = Tok Choices ∷ tok k.Open ∷ Lev Shown ∷ tok k.Close ∷ []
+parts selection = Tok Selections ∷ tok k.Open ∷ Lev Shown ∷ tok k.Close ∷ []
 parts nullif = tok k.Nullif ∷ tok k.Open ∷ Lev E0 ∷ tok k.Comma ∷ Lev E0 ∷ tok k.Close ∷ []
 parts array_empty = tok k.Array ∷ tok k.OpenBracket ∷ tok k.CloseBracket ∷ []
 parts array = tok k.Array ∷ tok k.OpenBracket ∷ Lev Shown ∷ tok k.CloseBracket ∷ []
@@ -354,29 +354,29 @@ abbrev pub constant_at : Span → TokenKind → Ast
 constant_at p (t.Number value whole) = e.Number p value whole
 constant_at p t.Wide = e.Wide p
 constant_at p (t.Str text) = e.Text p text
-constant_at p (t.Word w.True) = e.Truth p true
-constant_at p (t.Word w.False) = e.Truth p false
+constant_at p (t.Word w.True) = e.Bool p true
+constant_at p (t.Word w.False) = e.Bool p false
 constant_at p _ = e.Null p
 
 abbrev pub constant_of : Token → Ast
 constant_of token = constant_at token.span token.kind
 
-abbrev pub truth_at : TokenKind → Truth
-truth_at (t.Word w.True) = truth.True
-truth_at (t.Word w.False) = truth.False
-truth_at (t.Word w.Unknown) = truth.Unknown
-truth_at _ = truth.Null
+abbrev pub test_at : TokenKind → TruthTest
+test_at (t.Word w.True) = tests.True
+test_at (t.Word w.False) = tests.False
+test_at (t.Word w.Unknown) = tests.Unknown
+test_at _ = tests.Null
 
-abbrev pub truth_of : Token → Truth
-truth_of token = truth_at token.kind
+abbrev pub test_of : Token → TruthTest
+test_of token = test_at token.kind
 
-abbrev pub choice_at : TokenKind → Choice
-choice_at (t.Word w.Greatest) = choices.Greatest
-choice_at (t.Word w.Least) = choices.Least
-choice_at _ = choices.Coalesce
+abbrev pub selection_at : TokenKind → Selection
+selection_at (t.Word w.Greatest) = selections.Greatest
+selection_at (t.Word w.Least) = selections.Least
+selection_at _ = selections.Coalesce
 
-abbrev pub choice_of : Token → Choice
-choice_of token = choice_at token.kind
+abbrev pub selection_of : Token → Selection
+selection_of token = selection_at token.kind
 
 abbrev pub side_at : TokenKind → Side
 side_at (t.Word w.Leading) = sides.Leading
@@ -467,7 +467,7 @@ with_arm _ _ = Wrong
 
 -- tests, negated or not
 abbrev pub is_of : Bool → Value → List Value → Value
-is_of negated (Tree x) (Word a ∷ Word b ∷ []) = Tree (e.Is (at a) negated (truth_of b) x)
+is_of negated (Tree x) (Word a ∷ Word b ∷ []) = Tree (e.Is (at a) negated (test_of b) x)
 is_of _ _ _ = Wrong
 
 abbrev pub distinct_of : Bool → Value → List Value → Value
@@ -565,8 +565,8 @@ made not (Word a ∷ Tree x ∷ []) = Tree (e.Not (at a) x)
 made test_free (v ∷ []) = v
 made is_truth (v ∷ vs) = is_of false v vs
 made is_not_truth (v ∷ vs) = is_of true v (negated_is vs)
-made isnull (Tree x ∷ Word a ∷ []) = Tree (e.Is (at a) false truth.Null x)
-made notnull (Tree x ∷ Word a ∷ []) = Tree (e.Is (at a) true truth.Null x)
+made isnull (Tree x ∷ Word a ∷ []) = Tree (e.Is (at a) false tests.Null x)
+made notnull (Tree x ∷ Word a ∷ []) = Tree (e.Is (at a) true tests.Null x)
 made is_distinct (v ∷ vs) = distinct_of false v vs
 made is_not_distinct (v ∷ vs) = distinct_of true v (negated_is vs)
 made compare_free (v ∷ []) = v
@@ -593,13 +593,13 @@ made column (Word a ∷ []) = Tree (e.Column (at a) (name_of a))
 made typed_constant (Word a ∷ Word b ∷ []) = Tree (e.Typed (one_word a) (at b) (name_of b))
 made called_empty (Word a ∷ b ∷ c ∷ []) = Tree (e.Call (at a) (name_of a) [] false)
 made called (Word a ∷ b ∷ v ∷ c ∷ []) = call_of a v
-made group (Word a ∷ Tree x ∷ b ∷ []) = Tree (e.Group (at a) x)
+made paren (Word a ∷ Tree x ∷ b ∷ []) = Tree (e.Paren (at a) x)
 made cast_as (Word a ∷ b ∷ Tree x ∷ c ∷ Named n ∷ d ∷ []) = Tree (e.Cast (at a) x n)
 made cases (Word a ∷ vs) = case_of (at a) None vs
 made cases_else (Word a ∷ vs) = case_of (at a) None vs
 made cases_of (Word a ∷ v ∷ vs) = operand_case (at a) v vs
 made cases_of_else (Word a ∷ v ∷ vs) = operand_case (at a) v vs
-made choice (Word a ∷ b ∷ Trees all ∷ c ∷ []) = Tree (e.Choice (at a) (choice_of a) all)
+made selection (Word a ∷ b ∷ Trees all ∷ c ∷ []) = Tree (e.Selection (at a) (selection_of a) all)
 made nullif (Word a ∷ b ∷ Tree x ∷ c ∷ Tree y ∷ d ∷ []) = Tree (e.NullIf (at a) x y)
 made array_empty (Word a ∷ b ∷ c ∷ []) = Tree (e.Array (at a) [])
 made array (Word a ∷ b ∷ Trees all ∷ c ∷ []) = Tree (e.Array (at a) all)

@@ -7,7 +7,7 @@ use xp_base::{Dec, Name, Span, Txt};
 pub type Exprs = Items<Ast>;
 
 #[derive(Clone, Copy, Debug, PartialEq, Eq)]
-pub enum Truth {
+pub enum TruthTest {
     Null,
     True,
     False,
@@ -15,7 +15,7 @@ pub enum Truth {
 }
 
 #[derive(Clone, Copy, Debug, PartialEq, Eq)]
-pub enum Choice {
+pub enum Selection {
     Coalesce,
     Greatest,
     Least,
@@ -45,7 +45,7 @@ pub enum Ast {
         at: Span,
         text: Txt,
     },
-    Truth {
+    Bool {
         at: Span,
         value: bool,
     },
@@ -63,7 +63,7 @@ pub enum Ast {
         text: Txt,
     },
     /// An expression in parentheses.
-    Group {
+    Paren {
         at: Span,
         inner: Boxed<Ast>,
     },
@@ -85,9 +85,9 @@ pub enum Ast {
         arms: Items<Arm>,
         otherwise: Option<Boxed<Ast>>,
     },
-    Choice {
+    Selection {
         at: Span,
-        choice: Choice,
+        selection: Selection,
         args: Exprs,
     },
     NullIf {
@@ -211,7 +211,7 @@ pub enum Ast {
     Is {
         at: Span,
         negated: bool,
-        truth: Truth,
+        test: TruthTest,
         arg: Boxed<Ast>,
     },
     IsDistinct {

@@ -92,7 +92,7 @@ pub enum Kind {
     Typed,
     Point,
     /// The end of the statement.
-    Stop,
+    EndOfStatement,
     /// Behind the last token.
     Nothing,
 }
@@ -110,13 +110,13 @@ pub enum Class {
     /// `with` or `without`
     Zoned,
     /// NULL, TRUE, FALSE or UNKNOWN.
-    Truths,
+    TruthTests,
     /// A number, a string, TRUE, FALSE or NULL.
     Constants,
     /// LIKE or ILIKE.
     Likes,
     /// COALESCE, GREATEST or LEAST.
-    Choices,
+    Selections,
     /// BOTH, LEADING or TRAILING.
     Sides,
     /// A name or a string.
@@ -201,7 +201,7 @@ impl Kind {
             Kind::Comma => 70,
             Kind::Typed => 71,
             Kind::Point => 72,
-            Kind::Stop => 73,
+            Kind::EndOfStatement => 73,
             Kind::Nothing => 74,
         }
     }
@@ -252,7 +252,10 @@ impl Class {
             ),
             Class::Moments => matches!(kind, Kind::Timestamp | Kind::Time),
             Class::Zoned => matches!(kind, Kind::With | Kind::Without),
-            Class::Truths => matches!(kind, Kind::False | Kind::Null | Kind::True | Kind::Unknown),
+            Class::TruthTests => matches!(
+                kind,
+                Kind::False | Kind::Null | Kind::True | Kind::Unknown
+            ),
             Class::Constants => matches!(
                 kind,
                 Kind::Whole
@@ -264,7 +267,7 @@ impl Class {
                     | Kind::True
             ),
             Class::Likes => matches!(kind, Kind::Ilike | Kind::Like),
-            Class::Choices => matches!(kind, Kind::Coalesce | Kind::Greatest | Kind::Least),
+            Class::Selections => matches!(kind, Kind::Coalesce | Kind::Greatest | Kind::Least),
             Class::Sides => matches!(kind, Kind::Both | Kind::Leading | Kind::Trailing),
             Class::Fields => kind.is_name() || kind.is(Kind::String),
         }
@@ -390,6 +393,6 @@ pub fn token_kind(token: &Token) -> Kind
         TokenKind::Wide => Kind::Wide,
         TokenKind::Operator(name) => operator_kind(name.as_str()),
         TokenKind::Mark(mark) => mark_kind(*mark),
-        TokenKind::End => Kind::Stop,
+        TokenKind::End => Kind::EndOfStatement,
     }
 }

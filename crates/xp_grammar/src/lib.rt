@@ -7,7 +7,7 @@ mod laws;
 mod statement;
 mod types;
 
-pub use ast::{Arm, Ast, Choice, Exprs, Side, Truth};
+pub use ast::{Arm, Ast, Exprs, Selection, Side, TruthTest};
 pub use kind::{Class, Kind, token_kind};
 pub use laws::grammar_has_one_reading;
 pub use statement::{ExprLists, Item, ItemLists, Items, SelectArm, Statement};

@@ -8,7 +8,7 @@ use Rattle.xp_grammar.specs.Table.{Level, Tree}
 use Rattle.xp_grammar.specs.Machine.{parse}
 use Rattle.xp_parser.specs.declared.grammar.Nested.{Nested}
 use Rattle.xp_parser.specs.declared.grammar.Nested.TheVariants.{Expression, Operation}
-use Rattle.xp_parser.specs.declared.trouble.Trouble.{Trouble}
+use Rattle.xp_parser.specs.declared.parse_error.ParseError.{ParseError}
 use Rattle.xp_parser.specs.Reading.{Reads}
 
 abbrev pub level_of : Nested → Level
@@ -16,7 +16,7 @@ level_of Expression = Level.E0
 level_of Operation = Level.E6
 
 pub record Nests (room : ℕ) (pre : Global → Nested → MutBor (List Token) → Type 0)
-    (post : Global → Nested → MutBor (List Token) → Result Ast Trouble → MutBor (List Token) → Type 0) : Type 0 where
+    (post : Global → Nested → MutBor (List Token) → Result Ast ParseError → MutBor (List Token) → Type 0) : Type 0 where
   pub callable : (alloc : Global) (which : Nested) (old : MutBor (List Token)) → length old.now < room → pre alloc which old
-  pub reads : (alloc : Global) (which : Nested) (old new : MutBor (List Token)) (r : Result Ast Trouble) → post alloc which old r new
+  pub reads : (alloc : Global) (which : Nested) (old new : MutBor (List Token)) (r : Result Ast ParseError) → post alloc which old r new
       → Reads Tree (parse (level_of which) old.now) r new.now

@@ -4,7 +4,7 @@ use Rattle.xp_base.specs.declared.numbers.Span.{Span}
 use Rattle.xp_token.specs.declared.token.Token.{Token}
 use Rattle.xp_grammar.specs.declared.kind.Kind.TheVariants as k
 use Rattle.xp_grammar.specs.declared.kind.Class.{Class}
-use Rattle.xp_grammar.specs.declared.kind.Class.TheVariants.{Only, Names, Plains, Moments, Zoned, Truths, Constants, Likes, Choices, Sides, Fields}
+use Rattle.xp_grammar.specs.declared.kind.Class.TheVariants.{Only, Names, Plains, Moments, Zoned, TruthTests, Constants, Likes, Selections, Sides, Fields}
 use Rattle.xp_grammar.specs.declared.ast.Ast.{Ast}
 use Rattle.xp_grammar.specs.declared.ast.Ast.TheVariants as e
 use Rattle.xp_grammar.specs.declared.ast.Arm.{Arm}
@@ -86,7 +86,7 @@ unfoldable pub not_part : Parser Value
 not_part = after (Only k.Not) (λ a. parse l.E2 >>= (λ v. pure (made s.not (Word a ∷ v ∷ [])))) (parse l.E3 >>= (λ v. pure v))
 
 unfoldable pub is_end : Bool → Value → Token → Parser Value
-is_end negated v a = after Truths
+is_end negated v a = after TruthTests
     (λ b. pure (is_of negated v (Word a ∷ Word b ∷ [])))
     (expect (Only k.Distinct) >>= (λ b. expect (Only k.From) >>= (λ c. parse l.E4 >>= (λ w. pure (distinct_of negated v (Word a ∷ Word b ∷ Word c ∷ w ∷ []))))))
 
@@ -211,15 +211,15 @@ named_then a =
     after (Only k.String) (λ b. pure (made s.typed_constant (Word a ∷ Word b ∷ [])))
     (after (Only k.Open) (λ b. call_then a) (pure (made s.column (Word a ∷ []))))
 
-unfoldable pub group_then : Token → Parser Value
-group_then a = parse l.E0 >>= (λ v. expect (Only k.Close) >>= (λ b. pure (made s.group (Word a ∷ v ∷ Word b ∷ []))))
+unfoldable pub paren_then : Token → Parser Value
+paren_then a = parse l.E0 >>= (λ v. expect (Only k.Close) >>= (λ b. pure (made s.paren (Word a ∷ v ∷ Word b ∷ []))))
 
 unfoldable pub cast_then : Token → Parser Value
 cast_then a = expect (Only k.Open) >>= (λ b. parse l.E0 >>= (λ v. expect (Only k.As) >>= (λ c. parse l.Full >>= (λ n. expect (Only k.Close) >>= (λ d.
     pure (made s.cast_as (Word a ∷ Word b ∷ v ∷ Word c ∷ n ∷ Word d ∷ [])))))))
 
-unfoldable pub choice_then : Token → Parser Value
-choice_then a = expect (Only k.Open) >>= (λ b. parse l.Shown >>= (λ v. expect (Only k.Close) >>= (λ c. pure (made s.choice (Word a ∷ Word b ∷ v ∷ Word c ∷ [])))))
+unfoldable pub selection_then : Token → Parser Value
+selection_then a = expect (Only k.Open) >>= (λ b. parse l.Shown >>= (λ v. expect (Only k.Close) >>= (λ c. pure (made s.selection (Word a ∷ Word b ∷ v ∷ Word c ∷ [])))))
 
 -- ---- forms with words within their brackets
 
@@ -293,8 +293,8 @@ unfoldable pub primary_part : Parser Value
 primary_part =
     after Constants (λ a. pure (made s.constant (Word a ∷ [])))
     (after Names named_then
-    (after (Only k.Open) group_then
+    (after (Only k.Open) paren_then
     (after (Only k.Cast) cast_then
     (after (Only k.Case) case_then
-    (after Choices choice_then
+    (after Selections selection_then
     forms_part)))))

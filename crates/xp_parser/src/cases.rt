@@ -8,16 +8,20 @@ ghost use Rattle.xp_parser.specs.Reading.{Reads};
 
 use crate::cursor::Cursor;
 use crate::grammar::{Grammar, Nested};
-use crate::trouble::Trouble;
+use crate::parse_error::ParseError;
 use sqlite_items::{Boxed, Items};
 use std::alloc::Global;
 use xp_grammar::{Arm, Ast, Class, Kind};
 use xp_token::Token;
 
-impl<F: Fn(Global, Nested, &mut Cursor<'_>) -> Result<Boxed<Ast>, Trouble>> Grammar<F> {
+impl<F: Fn(Global, Nested, &mut Cursor<'_>) -> Result<Boxed<Ast>, ParseError>> Grammar<F> {
     /// Behind the word CASE.
     #[tactic(auto, using(xp_grammar::proofs::Turns::parse_less, crate::proofs::PrimaryLaws::starts_arms), unfolding(crate::specs::Parts::case_then))]
-    pub(crate) fn cases(&self, tokens: &mut Cursor<'_>, word: &Token) -> Result<Boxed<Ast>, Trouble>
+    pub(crate) fn cases(
+        &self,
+        tokens: &mut Cursor<'_>,
+        word: &Token,
+    ) -> Result<Boxed<Ast>, ParseError>
         requires nests { Nests self.now.room (F.pre self.now.nested) (F.post self.now.nested) }
         requires fewer { length tokens.old < self.now.room }
         ensures { Reads Tree (part.case_then word.now tokens.old) result tokens.new }
@@ -33,7 +37,7 @@ impl<F: Fn(Global, Nested, &mut Cursor<'_>) -> Result<Boxed<Ast>, Trouble>> Gram
 
     /// One WHEN with its THEN or more.
     #[tactic(auto, using(crate::proofs::PrimaryLaws::arms_is, crate::proofs::PrimaryLaws::more_arms), unfolding(crate::specs::Parts::arm_then, crate::specs::Parts::more_arms_part))]
-    fn arms(&self, tokens: &mut Cursor<'_>) -> Result<Items<Arm>, Trouble>
+    fn arms(&self, tokens: &mut Cursor<'_>) -> Result<Items<Arm>, ParseError>
         requires nests { Nests self.now.room (F.pre self.now.nested) (F.post self.now.nested) }
         requires fewer { length tokens.old ≤ self.now.room }
         ensures { Reads Cases (parse Level.Arms tokens.old) result tokens.new }
@@ -64,7 +68,7 @@ impl<F: Fn(Global, Nested, &mut Cursor<'_>) -> Result<Boxed<Ast>, Trouble>> Gram
         word: &Token,
         operand: Option<Boxed<Ast>>,
         arms: Items<Arm>,
-    ) -> Result<Boxed<Ast>, Trouble>
+    ) -> Result<Boxed<Ast>, ParseError>
         requires nests { Nests self.now.room (F.pre self.now.nested) (F.post self.now.nested) }
         requires fewer { length tokens.old < self.now.room }
         ensures { Reads Tree (part.end_then (case_of (at word.now) operand) (Cases arms) tokens.old) result tokens.new }

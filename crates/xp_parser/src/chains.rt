@@ -9,15 +9,15 @@ ghost use Rattle.xp_parser.specs.Reading.{Reads};
 use crate::cursor::Cursor;
 use crate::grammar::{Grammar, Nested};
 use crate::held;
-use crate::trouble::Trouble;
+use crate::parse_error::ParseError;
 use sqlite_items::Boxed;
 use std::alloc::Global;
 use xp_grammar::{Ast, Class, Kind};
 
-impl<F: Fn(Global, Nested, &mut Cursor<'_>) -> Result<Boxed<Ast>, Trouble>> Grammar<F> {
+impl<F: Fn(Global, Nested, &mut Cursor<'_>) -> Result<Boxed<Ast>, ParseError>> Grammar<F> {
     /// Operands of OR, from the left (manual 4.1.6).
     #[tactic(auto, using(xp_grammar::proofs::Turns::parse_less, crate::proofs::ChainLaws::or_is, crate::proofs::ChainLaws::more_or), unfolding(crate::specs::Parts::chain_part))]
-    pub(crate) fn or(&self, tokens: &mut Cursor<'_>) -> Result<Boxed<Ast>, Trouble>
+    pub(crate) fn or(&self, tokens: &mut Cursor<'_>) -> Result<Boxed<Ast>, ParseError>
         requires nests { Nests self.now.room (F.pre self.now.nested) (F.post self.now.nested) }
         requires fewer { length tokens.old ≤ self.now.room }
         ensures { Reads Tree (parse Level.E0 tokens.old) result tokens.new }
@@ -39,7 +39,7 @@ impl<F: Fn(Global, Nested, &mut Cursor<'_>) -> Result<Boxed<Ast>, Trouble>> Gram
 
     /// Operands of AND, from the left.
     #[tactic(auto, using(xp_grammar::proofs::Turns::parse_less, crate::proofs::ChainLaws::and_is, crate::proofs::ChainLaws::more_and), unfolding(crate::specs::Parts::chain_part))]
-    pub(crate) fn and(&self, tokens: &mut Cursor<'_>) -> Result<Boxed<Ast>, Trouble>
+    pub(crate) fn and(&self, tokens: &mut Cursor<'_>) -> Result<Boxed<Ast>, ParseError>
         requires nests { Nests self.now.room (F.pre self.now.nested) (F.post self.now.nested) }
         requires fewer { length tokens.old ≤ self.now.room }
         ensures { Reads Tree (parse Level.E1 tokens.old) result tokens.new }
@@ -61,7 +61,7 @@ impl<F: Fn(Global, Nested, &mut Cursor<'_>) -> Result<Boxed<Ast>, Trouble>> Gram
 
     /// Operands of `+` and `-`, from the left.
     #[tactic(auto, using(xp_grammar::proofs::Turns::parse_less, crate::proofs::ChainLaws::sum_is, crate::proofs::ChainLaws::more_sum), unfolding(crate::specs::Parts::chain_part))]
-    pub(crate) fn sum(&self, tokens: &mut Cursor<'_>) -> Result<Boxed<Ast>, Trouble>
+    pub(crate) fn sum(&self, tokens: &mut Cursor<'_>) -> Result<Boxed<Ast>, ParseError>
         requires nests { Nests self.now.room (F.pre self.now.nested) (F.post self.now.nested) }
         requires fewer { length tokens.old ≤ self.now.room }
         ensures { Reads Tree (parse Level.E7 tokens.old) result tokens.new }
@@ -84,7 +84,7 @@ impl<F: Fn(Global, Nested, &mut Cursor<'_>) -> Result<Boxed<Ast>, Trouble>> Gram
 
     /// Operands of `*`, `/` and `%`, from the left.
     #[tactic(auto, using(xp_grammar::proofs::Turns::parse_less, crate::proofs::ChainLaws::product_is, crate::proofs::ChainLaws::more_product), unfolding(crate::specs::Parts::chain_part))]
-    pub(crate) fn product(&self, tokens: &mut Cursor<'_>) -> Result<Boxed<Ast>, Trouble>
+    pub(crate) fn product(&self, tokens: &mut Cursor<'_>) -> Result<Boxed<Ast>, ParseError>
         requires nests { Nests self.now.room (F.pre self.now.nested) (F.post self.now.nested) }
         requires fewer { length tokens.old ≤ self.now.room }
         ensures { Reads Tree (parse Level.E8 tokens.old) result tokens.new }
@@ -107,7 +107,7 @@ impl<F: Fn(Global, Nested, &mut Cursor<'_>) -> Result<Boxed<Ast>, Trouble>> Gram
 
     /// Operands of `^`, from the left.
     #[tactic(auto, using(xp_grammar::proofs::Turns::parse_less, crate::proofs::ChainLaws::power_is, crate::proofs::ChainLaws::more_power), unfolding(crate::specs::Parts::chain_part))]
-    pub(crate) fn power(&self, tokens: &mut Cursor<'_>) -> Result<Boxed<Ast>, Trouble>
+    pub(crate) fn power(&self, tokens: &mut Cursor<'_>) -> Result<Boxed<Ast>, ParseError>
         requires nests { Nests self.now.room (F.pre self.now.nested) (F.post self.now.nested) }
         requires fewer { length tokens.old ≤ self.now.room }
         ensures { Reads Tree (parse Level.E9 tokens.old) result tokens.new }
@@ -130,7 +130,7 @@ impl<F: Fn(Global, Nested, &mut Cursor<'_>) -> Result<Boxed<Ast>, Trouble>> Gram
 
     /// An operand of any other operator, which may begin with such operators itself.
     #[tactic(auto, using(xp_grammar::proofs::Turns::parse_less, crate::proofs::ChainLaws::right_is), unfolding(crate::specs::Parts::prefix_then))]
-    fn right(&self, tokens: &mut Cursor<'_>) -> Result<Boxed<Ast>, Trouble>
+    fn right(&self, tokens: &mut Cursor<'_>) -> Result<Boxed<Ast>, ParseError>
         requires nests { Nests self.now.room (F.pre self.now.nested) (F.post self.now.nested) }
         requires fewer { length tokens.old ≤ self.now.room }
         ensures { Reads Tree (part.right_part tokens.old) result tokens.new }
@@ -148,7 +148,7 @@ impl<F: Fn(Global, Nested, &mut Cursor<'_>) -> Result<Boxed<Ast>, Trouble>> Gram
 
     /// Operands of any other operator, from the left.
     #[tactic(auto, using(crate::proofs::ChainLaws::right_less, crate::proofs::ChainLaws::other_is, crate::proofs::ChainLaws::more_other), unfolding(crate::specs::Parts::other_part))]
-    pub(crate) fn other(&self, tokens: &mut Cursor<'_>) -> Result<Boxed<Ast>, Trouble>
+    pub(crate) fn other(&self, tokens: &mut Cursor<'_>) -> Result<Boxed<Ast>, ParseError>
         requires nests { Nests self.now.room (F.pre self.now.nested) (F.post self.now.nested) }
         requires fewer { length tokens.old ≤ self.now.room }
         ensures { Reads Tree (parse Level.E6 tokens.old) result tokens.new }

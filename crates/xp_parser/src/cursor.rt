@@ -4,7 +4,7 @@ ghost use Rattle.xp_grammar.specs.Kinds.{ahead, same};
 ghost use Rattle.xp_grammar.specs.Machine as machine;
 ghost use Rattle.xp_parser.specs.Reading.{Eats, Reads, seen};
 
-use crate::trouble::Trouble;
+use crate::parse_error::ParseError;
 use std::marker::Model;
 use xp_grammar::{Class, Kind, token_kind};
 use xp_token::Token;
@@ -66,7 +66,7 @@ impl<'a> Cursor<'a> {
     }
 
     /// The next token, which has to be of the class.
-    pub(crate) fn expect(&mut self, class: Class) -> Result<&'a Token, Trouble>
+    pub(crate) fn expect(&mut self, class: Class) -> Result<&'a Token, ParseError>
         ensures value { Reads seen (machine.expect class self.old) result self.new }
         ensures fewer { IfOk result (λ _. length self.new < length self.old) }
     {
@@ -75,7 +75,7 @@ impl<'a> Cursor<'a> {
                 self.rest = rest;
                 Ok(first)
             }
-            _ => Err(Trouble::Syntax {
+            _ => Err(ParseError::Syntax {
                 left: self.rest.len(),
             }),
         }

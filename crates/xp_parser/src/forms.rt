@@ -8,17 +8,17 @@ ghost use Rattle.xp_parser.specs.Reading.{Reads};
 use crate::cursor::Cursor;
 use crate::grammar::{Grammar, Nested};
 use crate::held;
-use crate::trouble::Trouble;
+use crate::parse_error::ParseError;
 use sqlite_items::{Boxed, Items};
 use std::alloc::Global;
 use xp_base::Span;
 use xp_grammar::{Ast, Class, Kind, Side};
 use xp_token::Token;
 
-impl<F: Fn(Global, Nested, &mut Cursor<'_>) -> Result<Boxed<Ast>, Trouble>> Grammar<F> {
+impl<F: Fn(Global, Nested, &mut Cursor<'_>) -> Result<Boxed<Ast>, ParseError>> Grammar<F> {
     /// NULLIF, ARRAY, POSITION, SUBSTRING, TRIM or EXTRACT.
     #[tactic(auto, unfolding(crate::specs::Parts::forms_part))]
-    pub(crate) fn form(&self, tokens: &mut Cursor<'_>) -> Result<Boxed<Ast>, Trouble>
+    pub(crate) fn form(&self, tokens: &mut Cursor<'_>) -> Result<Boxed<Ast>, ParseError>
         requires nests { Nests self.now.room (F.pre self.now.nested) (F.post self.now.nested) }
         requires fewer { length tokens.old ≤ self.now.room }
         ensures { Reads Tree (part.forms_part tokens.old) result tokens.new }
@@ -44,7 +44,7 @@ impl<F: Fn(Global, Nested, &mut Cursor<'_>) -> Result<Boxed<Ast>, Trouble>> Gram
 
     /// Behind the word NULLIF.
     #[tactic(auto, unfolding(crate::specs::Parts::nullif_then))]
-    fn nullif(&self, tokens: &mut Cursor<'_>, word: &Token) -> Result<Boxed<Ast>, Trouble>
+    fn nullif(&self, tokens: &mut Cursor<'_>, word: &Token) -> Result<Boxed<Ast>, ParseError>
         requires nests { Nests self.now.room (F.pre self.now.nested) (F.post self.now.nested) }
         requires fewer { length tokens.old < self.now.room }
         ensures { Reads Tree (part.nullif_then word.now tokens.old) result tokens.new }
@@ -60,7 +60,7 @@ impl<F: Fn(Global, Nested, &mut Cursor<'_>) -> Result<Boxed<Ast>, Trouble>> Gram
 
     /// Behind the word ARRAY.
     #[tactic(auto, unfolding(crate::specs::Parts::array_then))]
-    fn array(&self, tokens: &mut Cursor<'_>, word: &Token) -> Result<Boxed<Ast>, Trouble>
+    fn array(&self, tokens: &mut Cursor<'_>, word: &Token) -> Result<Boxed<Ast>, ParseError>
         requires nests { Nests self.now.room (F.pre self.now.nested) (F.post self.now.nested) }
         requires fewer { length tokens.old < self.now.room }
         ensures { Reads Tree (part.array_then word.now tokens.old) result tokens.new }
@@ -78,7 +78,7 @@ impl<F: Fn(Global, Nested, &mut Cursor<'_>) -> Result<Boxed<Ast>, Trouble>> Gram
 
     /// Behind the word POSITION.
     #[tactic(auto, unfolding(crate::specs::Parts::position_then))]
-    fn position(&self, tokens: &mut Cursor<'_>, word: &Token) -> Result<Boxed<Ast>, Trouble>
+    fn position(&self, tokens: &mut Cursor<'_>, word: &Token) -> Result<Boxed<Ast>, ParseError>
         requires nests { Nests self.now.room (F.pre self.now.nested) (F.post self.now.nested) }
         requires fewer { length tokens.old < self.now.room }
         ensures { Reads Tree (part.position_then word.now tokens.old) result tokens.new }
@@ -94,7 +94,7 @@ impl<F: Fn(Global, Nested, &mut Cursor<'_>) -> Result<Boxed<Ast>, Trouble>> Gram
 
     /// Behind the word EXTRACT.
     #[tactic(auto, unfolding(crate::specs::Parts::extract_then))]
-    fn extract(&self, tokens: &mut Cursor<'_>, word: &Token) -> Result<Boxed<Ast>, Trouble>
+    fn extract(&self, tokens: &mut Cursor<'_>, word: &Token) -> Result<Boxed<Ast>, ParseError>
         requires nests { Nests self.now.room (F.pre self.now.nested) (F.post self.now.nested) }
         requires fewer { length tokens.old < self.now.room }
         ensures { Reads Tree (part.extract_then word.now tokens.old) result tokens.new }
@@ -120,7 +120,7 @@ impl<F: Fn(Global, Nested, &mut Cursor<'_>) -> Result<Boxed<Ast>, Trouble>> Gram
 
     /// Behind the word SUBSTRING.
     #[tactic(auto, unfolding(crate::specs::Parts::substring_then))]
-    fn substring(&self, tokens: &mut Cursor<'_>, word: &Token) -> Result<Boxed<Ast>, Trouble>
+    fn substring(&self, tokens: &mut Cursor<'_>, word: &Token) -> Result<Boxed<Ast>, ParseError>
         requires nests { Nests self.now.room (F.pre self.now.nested) (F.post self.now.nested) }
         requires fewer { length tokens.old < self.now.room }
         ensures { Reads Tree (part.substring_then word.now tokens.old) result tokens.new }
@@ -150,7 +150,7 @@ impl<F: Fn(Global, Nested, &mut Cursor<'_>) -> Result<Boxed<Ast>, Trouble>> Gram
         tokens: &mut Cursor<'_>,
         word: &Token,
         text: Boxed<Ast>,
-    ) -> Result<Boxed<Ast>, Trouble>
+    ) -> Result<Boxed<Ast>, ParseError>
         requires nests { Nests self.now.room (F.pre self.now.nested) (F.post self.now.nested) }
         requires fewer { length tokens.old < self.now.room }
         ensures { Reads Tree (part.listed_then word.now (Tree text) tokens.old) result tokens.new }
@@ -171,7 +171,7 @@ impl<F: Fn(Global, Nested, &mut Cursor<'_>) -> Result<Boxed<Ast>, Trouble>> Gram
         tokens: &mut Cursor<'_>,
         word: &Token,
         text: Boxed<Ast>,
-    ) -> Result<Boxed<Ast>, Trouble>
+    ) -> Result<Boxed<Ast>, ParseError>
         requires nests { Nests self.now.room (F.pre self.now.nested) (F.post self.now.nested) }
         requires fewer { length tokens.old < self.now.room }
         ensures { Reads Tree (part.begun_then word.now (Tree text) tokens.old) result tokens.new }
@@ -201,7 +201,7 @@ impl<F: Fn(Global, Nested, &mut Cursor<'_>) -> Result<Boxed<Ast>, Trouble>> Gram
         tokens: &mut Cursor<'_>,
         word: &Token,
         text: Boxed<Ast>,
-    ) -> Result<Boxed<Ast>, Trouble>
+    ) -> Result<Boxed<Ast>, ParseError>
         requires nests { Nests self.now.room (F.pre self.now.nested) (F.post self.now.nested) }
         requires fewer { length tokens.old < self.now.room }
         ensures { Reads Tree (part.ended_then word.now (Tree text) tokens.old) result tokens.new }
@@ -223,7 +223,7 @@ impl<F: Fn(Global, Nested, &mut Cursor<'_>) -> Result<Boxed<Ast>, Trouble>> Gram
 
     /// Behind the word TRIM.
     #[tactic(auto, unfolding(crate::specs::Parts::trim_then))]
-    fn trim(&self, tokens: &mut Cursor<'_>, word: &Token) -> Result<Boxed<Ast>, Trouble>
+    fn trim(&self, tokens: &mut Cursor<'_>, word: &Token) -> Result<Boxed<Ast>, ParseError>
         requires nests { Nests self.now.room (F.pre self.now.nested) (F.post self.now.nested) }
         requires fewer { length tokens.old < self.now.room }
         ensures { Reads Tree (part.trim_then word.now tokens.old) result tokens.new }
@@ -242,7 +242,7 @@ impl<F: Fn(Global, Nested, &mut Cursor<'_>) -> Result<Boxed<Ast>, Trouble>> Gram
         tokens: &mut Cursor<'_>,
         at: Span,
         side: Option<Side>,
-    ) -> Result<Boxed<Ast>, Trouble>
+    ) -> Result<Boxed<Ast>, ParseError>
         requires nests { Nests self.now.room (F.pre self.now.nested) (F.post self.now.nested) }
         requires fewer { length tokens.old < self.now.room }
         ensures { Reads Tree (part.sided_then at side tokens.old) result tokens.new }
@@ -262,7 +262,7 @@ impl<F: Fn(Global, Nested, &mut Cursor<'_>) -> Result<Boxed<Ast>, Trouble>> Gram
         at: Span,
         side: Option<Side>,
         first: Boxed<Ast>,
-    ) -> Result<Boxed<Ast>, Trouble>
+    ) -> Result<Boxed<Ast>, ParseError>
         requires nests { Nests self.now.room (F.pre self.now.nested) (F.post self.now.nested) }
         requires fewer { length tokens.old < self.now.room }
         ensures { Reads Tree (part.trimmed_then at side (Tree first) tokens.old) result tokens.new }
@@ -295,7 +295,7 @@ impl<F: Fn(Global, Nested, &mut Cursor<'_>) -> Result<Boxed<Ast>, Trouble>> Gram
         at: Span,
         side: Option<Side>,
         set: Option<Boxed<Ast>>,
-    ) -> Result<Boxed<Ast>, Trouble>
+    ) -> Result<Boxed<Ast>, ParseError>
         requires nests { Nests self.now.room (F.pre self.now.nested) (F.post self.now.nested) }
         requires fewer { length tokens.old < self.now.room }
         ensures { Reads Tree (part.source_then at side set tokens.old) result tokens.new }

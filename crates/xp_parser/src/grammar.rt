@@ -7,7 +7,7 @@ ghost use Rattle.xp_parser.specs.Nests.{Nests};
 ghost use Rattle.xp_parser.specs.Reading.{Reads};
 
 use crate::cursor::Cursor;
-use crate::trouble::Trouble;
+use crate::parse_error::ParseError;
 use sqlite_items::Boxed;
 use std::alloc::Global;
 use xp_grammar::Ast;
@@ -28,9 +28,9 @@ pub(crate) struct Grammar<F> {
     pub(crate) nested: F,
 }
 
-impl<F: Fn(Global, Nested, &mut Cursor<'_>) -> Result<Boxed<Ast>, Trouble>> Grammar<F> {
+impl<F: Fn(Global, Nested, &mut Cursor<'_>) -> Result<Boxed<Ast>, ParseError>> Grammar<F> {
     #[tactic(auto, using(xp_grammar::proofs::Turns::parse_takes))]
-    pub(crate) fn expr(&self, tokens: &mut Cursor<'_>) -> Result<Boxed<Ast>, Trouble>
+    pub(crate) fn expr(&self, tokens: &mut Cursor<'_>) -> Result<Boxed<Ast>, ParseError>
         requires nests { Nests self.now.room (F.pre self.now.nested) (F.post self.now.nested) }
         requires fewer { length tokens.old < self.now.room }
         ensures value { Reads Tree (parse Level.E0 tokens.old) result tokens.new }
@@ -40,7 +40,7 @@ impl<F: Fn(Global, Nested, &mut Cursor<'_>) -> Result<Boxed<Ast>, Trouble>> Gram
     }
 
     #[tactic(auto, using(xp_grammar::proofs::Turns::parse_takes))]
-    pub(crate) fn operation(&self, tokens: &mut Cursor<'_>) -> Result<Boxed<Ast>, Trouble>
+    pub(crate) fn operation(&self, tokens: &mut Cursor<'_>) -> Result<Boxed<Ast>, ParseError>
         requires nests { Nests self.now.room (F.pre self.now.nested) (F.post self.now.nested) }
         requires fewer { length tokens.old < self.now.room }
         ensures value { Reads Tree (parse Level.E6 tokens.old) result tokens.new }

@@ -4,7 +4,9 @@ ghost use Rattle.xp_grammar.specs.Table as table;
 
 use std::alloc::Global;
 use xp_base::{Memory, Name, Txt};
-use xp_grammar::{Ast, Choice, Kind, Moment, Side, Truth, TypeModifier, TypeName, token_kind};
+use xp_grammar::{
+    Ast, Kind, Moment, Selection, Side, TruthTest, TypeModifier, TypeName, token_kind,
+};
 use xp_token::{Token, TokenKind, Word};
 
 /// The characters of a name, an operator or a string.
@@ -60,30 +62,30 @@ pub(crate) fn constant(alloc: Global, token: &Token) -> Result<Ast, Memory>
             at,
             text: text(alloc, token)?,
         },
-        TokenKind::Word(Word::True) => Ast::Truth { at, value: true },
-        TokenKind::Word(Word::False) => Ast::Truth { at, value: false },
+        TokenKind::Word(Word::True) => Ast::Bool { at, value: true },
+        TokenKind::Word(Word::False) => Ast::Bool { at, value: false },
         _ => Ast::Null { at },
     })
 }
 
-pub(crate) fn truth(token: &Token) -> Truth
-    ensures { result ≡ table.truth_of token.now }
+pub(crate) fn test(token: &Token) -> TruthTest
+    ensures { result ≡ table.test_of token.now }
 {
     match &token.kind {
-        TokenKind::Word(Word::True) => Truth::True,
-        TokenKind::Word(Word::False) => Truth::False,
-        TokenKind::Word(Word::Unknown) => Truth::Unknown,
-        _ => Truth::Null,
+        TokenKind::Word(Word::True) => TruthTest::True,
+        TokenKind::Word(Word::False) => TruthTest::False,
+        TokenKind::Word(Word::Unknown) => TruthTest::Unknown,
+        _ => TruthTest::Null,
     }
 }
 
-pub(crate) fn choice(token: &Token) -> Choice
-    ensures { result ≡ table.choice_of token.now }
+pub(crate) fn selection(token: &Token) -> Selection
+    ensures { result ≡ table.selection_of token.now }
 {
     match &token.kind {
-        TokenKind::Word(Word::Greatest) => Choice::Greatest,
-        TokenKind::Word(Word::Least) => Choice::Least,
-        _ => Choice::Coalesce,
+        TokenKind::Word(Word::Greatest) => Selection::Greatest,
+        TokenKind::Word(Word::Least) => Selection::Least,
+        _ => Selection::Coalesce,
     }
 }
 

@@ -11,18 +11,13 @@ mod grammar;
 mod held;
 mod lists;
 mod operands;
+mod parse_error;
 mod parsing;
 mod predicates;
 mod primaries;
 mod reading;
 mod statements;
-mod trouble;
 mod types;
 
 pub use fault::ParseFault;
 pub use parsing::parse;
-
-#[cfg(test)]
-mod shown;
-#[cfg(test)]
-mod tests;

@@ -8,7 +8,7 @@ ghost use Rattle.xp_parser.specs.Reading.{Reads};
 
 use crate::cursor::Cursor;
 use crate::grammar::{Grammar, Nested};
-use crate::trouble::Trouble;
+use crate::parse_error::ParseError;
 use sqlite_items::{Boxed, Items};
 use std::alloc::Global;
 use xp_grammar::{Ast, Class, Exprs, Kind};
@@ -20,10 +20,10 @@ pub(crate) struct Arguments {
     pub(crate) variadic: bool,
 }
 
-impl<F: Fn(Global, Nested, &mut Cursor<'_>) -> Result<Boxed<Ast>, Trouble>> Grammar<F> {
+impl<F: Fn(Global, Nested, &mut Cursor<'_>) -> Result<Boxed<Ast>, ParseError>> Grammar<F> {
     /// One expression or more, with commas between.
     #[tactic(auto, using(crate::proofs::ListLaws::shown_is, crate::proofs::ListLaws::more_shown), unfolding(crate::specs::Parts::more_shown_part))]
-    pub(crate) fn list(&self, tokens: &mut Cursor<'_>) -> Result<Exprs, Trouble>
+    pub(crate) fn list(&self, tokens: &mut Cursor<'_>) -> Result<Exprs, ParseError>
         requires nests { Nests self.now.room (F.pre self.now.nested) (F.post self.now.nested) }
         requires fewer { length tokens.old < self.now.room }
         ensures value { Reads Trees (parse Level.Shown tokens.old) result tokens.new }
@@ -41,7 +41,7 @@ impl<F: Fn(Global, Nested, &mut Cursor<'_>) -> Result<Boxed<Ast>, Trouble>> Gram
 
     /// Arguments, of which the last alone may have the word VARIADIC before it.
     #[tactic(auto, using(crate::proofs::ListLaws::args_is, crate::proofs::ListLaws::more_args, crate::proofs::ListLaws::args_end), unfolding(crate::specs::Parts::args_part, crate::specs::Parts::more_args_part))]
-    pub(crate) fn args(&self, tokens: &mut Cursor<'_>) -> Result<Arguments, Trouble>
+    pub(crate) fn args(&self, tokens: &mut Cursor<'_>) -> Result<Arguments, ParseError>
         requires nests { Nests self.now.room (F.pre self.now.nested) (F.post self.now.nested) }
         requires fewer { length tokens.old < self.now.room }
         ensures { Reads part.arguments (parse Level.Args tokens.old) result tokens.new }

@@ -9,7 +9,7 @@ ghost use Rattle.xp_parser.specs.Reading.{Reads};
 
 use crate::cursor::Cursor;
 use crate::grammar::{Grammar, Nested};
-use crate::trouble::Trouble;
+use crate::parse_error::ParseError;
 use crate::{held, types};
 use sqlite_items::Boxed;
 use std::alloc::{AllocError, Global};
@@ -56,9 +56,9 @@ fn close(alloc: Global, operand: Operand) -> Result<Boxed<Ast>, AllocError>
     }
 }
 
-impl<F: Fn(Global, Nested, &mut Cursor<'_>) -> Result<Boxed<Ast>, Trouble>> Grammar<F> {
+impl<F: Fn(Global, Nested, &mut Cursor<'_>) -> Result<Boxed<Ast>, ParseError>> Grammar<F> {
     #[tactic(auto, using(crate::proofs::OperandLaws::signed_is), unfolding(crate::specs::Parts::signed_part))]
-    pub(crate) fn signed(&self, tokens: &mut Cursor<'_>) -> Result<Boxed<Ast>, Trouble>
+    pub(crate) fn signed(&self, tokens: &mut Cursor<'_>) -> Result<Boxed<Ast>, ParseError>
         requires nests { Nests self.now.room (F.pre self.now.nested) (F.post self.now.nested) }
         requires fewer { length tokens.old ≤ self.now.room }
         ensures { Reads Tree (parse Level.E10 tokens.old) result tokens.new }
@@ -78,7 +78,7 @@ impl<F: Fn(Global, Nested, &mut Cursor<'_>) -> Result<Boxed<Ast>, Trouble>> Gram
     }
 
     #[tactic(auto, using(crate::proofs::OperandLaws::operand_is, crate::proofs::OperandLaws::more_operand, xp_grammar::proofs::Turns::parse_takes), unfolding(crate::specs::Parts::more_part))]
-    fn operand(&self, tokens: &mut Cursor<'_>) -> Result<Operand, Trouble>
+    fn operand(&self, tokens: &mut Cursor<'_>) -> Result<Operand, ParseError>
         requires nests { Nests self.now.room (F.pre self.now.nested) (F.post self.now.nested) }
         requires fewer { length tokens.old ≤ self.now.room }
         ensures { Reads part.operand (parse Level.E11 tokens.old) result tokens.new }
@@ -102,7 +102,7 @@ impl<F: Fn(Global, Nested, &mut Cursor<'_>) -> Result<Boxed<Ast>, Trouble>> Gram
         tokens: &mut Cursor<'_>,
         operand: Operand,
         colons: &Token,
-    ) -> Result<Operand, Trouble>
+    ) -> Result<Operand, ParseError>
         ensures { Reads part.operand (part.cast_part (part.operand operand) colons.now tokens.old) result tokens.new }
     {
         let target = types::basic(self.alloc, tokens)?;
@@ -115,7 +115,7 @@ impl<F: Fn(Global, Nested, &mut Cursor<'_>) -> Result<Boxed<Ast>, Trouble>> Gram
 
     /// What stands in brackets, behind the first.
     #[tactic(auto, unfolding(crate::specs::Parts::index_part))]
-    fn index(&self, tokens: &mut Cursor<'_>) -> Result<Index, Trouble>
+    fn index(&self, tokens: &mut Cursor<'_>) -> Result<Index, ParseError>
         requires nests { Nests self.now.room (F.pre self.now.nested) (F.post self.now.nested) }
         requires fewer { length tokens.old < self.now.room }
         ensures { Reads part.found_index (part.index_part tokens.old) result tokens.new }
@@ -135,7 +135,7 @@ impl<F: Fn(Global, Nested, &mut Cursor<'_>) -> Result<Boxed<Ast>, Trouble>> Gram
         tokens: &mut Cursor<'_>,
         operand: Operand,
         bracket: &Token,
-    ) -> Result<Operand, Trouble>
+    ) -> Result<Operand, ParseError>
         requires nests { Nests self.now.room (F.pre self.now.nested) (F.post self.now.nested) }
         requires fewer { length tokens.old < self.now.room }
         ensures { Reads part.operand (part.bracket_part (part.operand operand) bracket.now tokens.old) result tokens.new }

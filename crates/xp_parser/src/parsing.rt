@@ -5,8 +5,8 @@ ghost use Rattle.xp_parser.specs.Parses as spec;
 
 use crate::depth::first_deep;
 use crate::fault::ParseFault;
+use crate::parse_error::ParseError;
 use crate::reading::whole;
-use crate::trouble::Trouble;
 use std::alloc::Global;
 use xp_grammar::Statement;
 use xp_token::{Token, Tokens};
@@ -28,10 +28,10 @@ fn parse_words(alloc: Global, tokens: &[Token], words: &[Token]) -> Result<State
 {
     match whole(alloc, words) {
         Ok(statement) => Ok(statement),
-        Err(Trouble::Syntax { left }) => Err(ParseFault::Syntax {
+        Err(ParseError::Syntax { left }) => Err(ParseFault::Syntax {
             at: start_at(tokens, words.len() - left),
         }),
-        Err(Trouble::Memory) => Err(ParseFault::Memory),
+        Err(ParseError::Memory) => Err(ParseFault::Memory),
     }
 }
 
@@ -69,8 +69,8 @@ fn parse_deep(
                 at: start_at(tokens, place),
             })
         }
-        Err(Trouble::Syntax { left }) => Err(fault_within(tokens, place, left)),
-        Err(Trouble::Memory) => Err(ParseFault::Memory),
+        Err(ParseError::Syntax { left }) => Err(fault_within(tokens, place, left)),
+        Err(ParseError::Memory) => Err(ParseFault::Memory),
     }
 }
 

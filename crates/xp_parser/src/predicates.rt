@@ -9,15 +9,15 @@ ghost use Rattle.xp_parser.specs.Reading.{Reads};
 use crate::cursor::Cursor;
 use crate::grammar::{Grammar, Nested};
 use crate::held;
-use crate::trouble::Trouble;
+use crate::parse_error::ParseError;
 use sqlite_items::Boxed;
 use std::alloc::{AllocError, Global};
-use xp_grammar::{Ast, Class, Kind, Truth};
+use xp_grammar::{Ast, Class, Kind, TruthTest};
 use xp_token::Token;
 
-impl<F: Fn(Global, Nested, &mut Cursor<'_>) -> Result<Boxed<Ast>, Trouble>> Grammar<F> {
+impl<F: Fn(Global, Nested, &mut Cursor<'_>) -> Result<Boxed<Ast>, ParseError>> Grammar<F> {
     #[tactic(auto, using(crate::proofs::TestLaws::not_is), unfolding(crate::specs::Parts::not_part))]
-    pub(crate) fn not(&self, tokens: &mut Cursor<'_>) -> Result<Boxed<Ast>, Trouble>
+    pub(crate) fn not(&self, tokens: &mut Cursor<'_>) -> Result<Boxed<Ast>, ParseError>
         requires nests { Nests self.now.room (F.pre self.now.nested) (F.post self.now.nested) }
         requires fewer { length tokens.old ≤ self.now.room }
         ensures { Reads Tree (parse Level.E2 tokens.old) result tokens.new }
@@ -33,7 +33,7 @@ impl<F: Fn(Global, Nested, &mut Cursor<'_>) -> Result<Boxed<Ast>, Trouble>> Gram
     }
 
     #[tactic(auto, using(xp_grammar::proofs::Turns::parse_less, crate::proofs::TestLaws::test_is), unfolding(crate::specs::Parts::test_part, crate::specs::Parts::test_then))]
-    fn test(&self, tokens: &mut Cursor<'_>) -> Result<Boxed<Ast>, Trouble>
+    fn test(&self, tokens: &mut Cursor<'_>) -> Result<Boxed<Ast>, ParseError>
         requires nests { Nests self.now.room (F.pre self.now.nested) (F.post self.now.nested) }
         requires fewer { length tokens.old ≤ self.now.room }
         ensures { Reads Tree (parse Level.E3 tokens.old) result tokens.new }
@@ -57,14 +57,14 @@ impl<F: Fn(Global, Nested, &mut Cursor<'_>) -> Result<Boxed<Ast>, Trouble>> Gram
         word: &Token,
         negated: bool,
     ) -> Result<Boxed<Ast>, AllocError>
-        ensures { IfOk result (λ e. e ≡ Ast.Is (at word.now) negated Truth.Null arg) }
+        ensures { IfOk result (λ e. e ≡ Ast.Is (at word.now) negated TruthTest.Null arg) }
     {
         Boxed::new(
             self.alloc,
             Ast::Is {
                 at: word.span,
                 negated,
-                truth: Truth::Null,
+                test: TruthTest::Null,
                 arg,
             },
         )
@@ -77,7 +77,7 @@ impl<F: Fn(Global, Nested, &mut Cursor<'_>) -> Result<Boxed<Ast>, Trouble>> Gram
         tokens: &mut Cursor<'_>,
         arg: Boxed<Ast>,
         word: &Token,
-    ) -> Result<Boxed<Ast>, Trouble>
+    ) -> Result<Boxed<Ast>, ParseError>
         requires nests { Nests self.now.room (F.pre self.now.nested) (F.post self.now.nested) }
         requires fewer { length tokens.old ≤ self.now.room }
         ensures { Reads Tree (part.is_then (Tree arg) word.now tokens.old) result tokens.new }
@@ -96,20 +96,20 @@ impl<F: Fn(Global, Nested, &mut Cursor<'_>) -> Result<Boxed<Ast>, Trouble>> Gram
         arg: Boxed<Ast>,
         word: &Token,
         negated: bool,
-    ) -> Result<Boxed<Ast>, Trouble>
+    ) -> Result<Boxed<Ast>, ParseError>
         requires nests { Nests self.now.room (F.pre self.now.nested) (F.post self.now.nested) }
         requires fewer { length tokens.old ≤ self.now.room }
         ensures { Reads Tree (part.is_end negated (Tree arg) word.now tokens.old) result tokens.new }
     {
         let at = word.span;
-        if let Some(truth) = tokens.eat(Class::Truths) {
-            let truth = held::truth(truth);
+        if let Some(word) = tokens.eat(Class::TruthTests) {
+            let test = held::test(word);
             return Ok(Boxed::new(
                 self.alloc,
                 Ast::Is {
                     at,
                     negated,
-                    truth,
+                    test,
                     arg,
                 },
             )?);
@@ -130,7 +130,7 @@ impl<F: Fn(Global, Nested, &mut Cursor<'_>) -> Result<Boxed<Ast>, Trouble>> Gram
 
     /// One comparison at most.
     #[tactic(auto, using(xp_grammar::proofs::Turns::parse_less, crate::proofs::TestLaws::compared_is), unfolding(crate::specs::Parts::compared_part))]
-    fn compared(&self, tokens: &mut Cursor<'_>) -> Result<Boxed<Ast>, Trouble>
+    fn compared(&self, tokens: &mut Cursor<'_>) -> Result<Boxed<Ast>, ParseError>
         requires nests { Nests self.now.room (F.pre self.now.nested) (F.post self.now.nested) }
         requires fewer { length tokens.old ≤ self.now.room }
         ensures { Reads Tree (parse Level.E4 tokens.old) result tokens.new }
@@ -157,7 +157,7 @@ impl<F: Fn(Global, Nested, &mut Cursor<'_>) -> Result<Boxed<Ast>, Trouble>> Gram
 
     /// One BETWEEN, IN, LIKE or ILIKE at most.
     #[tactic(auto, using(xp_grammar::proofs::Turns::parse_less, crate::proofs::TestLaws::range_is), unfolding(crate::specs::Parts::range_part, crate::specs::Parts::range_then))]
-    fn range(&self, tokens: &mut Cursor<'_>) -> Result<Boxed<Ast>, Trouble>
+    fn range(&self, tokens: &mut Cursor<'_>) -> Result<Boxed<Ast>, ParseError>
         requires nests { Nests self.now.room (F.pre self.now.nested) (F.post self.now.nested) }
         requires fewer { length tokens.old ≤ self.now.room }
         ensures { Reads Tree (parse Level.E5 tokens.old) result tokens.new }
@@ -180,7 +180,7 @@ impl<F: Fn(Global, Nested, &mut Cursor<'_>) -> Result<Boxed<Ast>, Trouble>> Gram
 
     /// Behind the word NOT that stands behind an operand.
     #[tactic(auto, unfolding(crate::specs::Parts::not_range_then))]
-    fn not_range(&self, tokens: &mut Cursor<'_>, left: Boxed<Ast>) -> Result<Boxed<Ast>, Trouble>
+    fn not_range(&self, tokens: &mut Cursor<'_>, left: Boxed<Ast>) -> Result<Boxed<Ast>, ParseError>
         requires nests { Nests self.now.room (F.pre self.now.nested) (F.post self.now.nested) }
         requires fewer { length tokens.old ≤ self.now.room }
         ensures { Reads Tree (part.not_range_then (Tree left) tokens.old) result tokens.new }
@@ -203,7 +203,7 @@ impl<F: Fn(Global, Nested, &mut Cursor<'_>) -> Result<Boxed<Ast>, Trouble>> Gram
         arg: Boxed<Ast>,
         word: &Token,
         negated: bool,
-    ) -> Result<Boxed<Ast>, Trouble>
+    ) -> Result<Boxed<Ast>, ParseError>
         requires nests { Nests self.now.room (F.pre self.now.nested) (F.post self.now.nested) }
         requires fewer { length tokens.old ≤ self.now.room }
         ensures { Reads Tree (part.between_then negated (Tree arg) word.now tokens.old) result tokens.new }
@@ -232,7 +232,7 @@ impl<F: Fn(Global, Nested, &mut Cursor<'_>) -> Result<Boxed<Ast>, Trouble>> Gram
         arg: Boxed<Ast>,
         word: &Token,
         negated: bool,
-    ) -> Result<Boxed<Ast>, Trouble>
+    ) -> Result<Boxed<Ast>, ParseError>
         requires nests { Nests self.now.room (F.pre self.now.nested) (F.post self.now.nested) }
         requires fewer { length tokens.old ≤ self.now.room }
         ensures { Reads Tree (part.in_then negated (Tree arg) word.now tokens.old) result tokens.new }
@@ -260,7 +260,7 @@ impl<F: Fn(Global, Nested, &mut Cursor<'_>) -> Result<Boxed<Ast>, Trouble>> Gram
         left: Boxed<Ast>,
         word: &Token,
         negated: bool,
-    ) -> Result<Boxed<Ast>, Trouble>
+    ) -> Result<Boxed<Ast>, ParseError>
         requires nests { Nests self.now.room (F.pre self.now.nested) (F.post self.now.nested) }
         requires fewer { length tokens.old ≤ self.now.room }
         ensures { Reads Tree (part.like_then negated (Tree left) word.now tokens.old) result tokens.new }

@@ -9,7 +9,7 @@ ghost use Rattle.xp_parser.specs.Reading.{Reads};
 use crate::cursor::Cursor;
 use crate::grammar::{Grammar, Nested};
 use crate::lists::Arguments;
-use crate::trouble::Trouble;
+use crate::parse_error::ParseError;
 use crate::{held, types};
 use sqlite_items::{Boxed, Items};
 use std::alloc::Global;
@@ -17,10 +17,10 @@ use xp_base::Memory;
 use xp_grammar::{Ast, Class, Kind, TypeModifier, TypeWords};
 use xp_token::Token;
 
-impl<F: Fn(Global, Nested, &mut Cursor<'_>) -> Result<Boxed<Ast>, Trouble>> Grammar<F> {
+impl<F: Fn(Global, Nested, &mut Cursor<'_>) -> Result<Boxed<Ast>, ParseError>> Grammar<F> {
     /// An operand without operators around it.
     #[tactic(auto, using(crate::proofs::PrimaryLaws::primary_is), unfolding(crate::specs::Parts::primary_part))]
-    pub(crate) fn primary(&self, tokens: &mut Cursor<'_>) -> Result<Boxed<Ast>, Trouble>
+    pub(crate) fn primary(&self, tokens: &mut Cursor<'_>) -> Result<Boxed<Ast>, ParseError>
         requires nests { Nests self.now.room (F.pre self.now.nested) (F.post self.now.nested) }
         requires fewer { length tokens.old ≤ self.now.room }
         ensures { Reads Tree (parse Level.E12 tokens.old) result tokens.new }
@@ -32,7 +32,7 @@ impl<F: Fn(Global, Nested, &mut Cursor<'_>) -> Result<Boxed<Ast>, Trouble>> Gram
             return self.named(tokens, word);
         }
         if let Some(word) = tokens.eat(Class::Only(Kind::Open)) {
-            return self.group(tokens, word);
+            return self.paren(tokens, word);
         }
         if let Some(word) = tokens.eat(Class::Only(Kind::Cast)) {
             return self.cast_as(tokens, word);
@@ -40,15 +40,15 @@ impl<F: Fn(Global, Nested, &mut Cursor<'_>) -> Result<Boxed<Ast>, Trouble>> Gram
         if let Some(word) = tokens.eat(Class::Only(Kind::Case)) {
             return self.cases(tokens, word);
         }
-        if let Some(word) = tokens.eat(Class::Choices) {
-            return self.choice(tokens, word);
+        if let Some(word) = tokens.eat(Class::Selections) {
+            return self.selection(tokens, word);
         }
         self.form(tokens)
     }
 
     /// Behind a name.
     #[tactic(auto, unfolding(crate::specs::Parts::named_then))]
-    fn named(&self, tokens: &mut Cursor<'_>, word: &Token) -> Result<Boxed<Ast>, Trouble>
+    fn named(&self, tokens: &mut Cursor<'_>, word: &Token) -> Result<Boxed<Ast>, ParseError>
         requires nests { Nests self.now.room (F.pre self.now.nested) (F.post self.now.nested) }
         requires fewer { length tokens.old < self.now.room }
         ensures { Reads Tree (part.named_then word.now tokens.old) result tokens.new }
@@ -83,7 +83,7 @@ impl<F: Fn(Global, Nested, &mut Cursor<'_>) -> Result<Boxed<Ast>, Trouble>> Gram
 
     /// Behind the first bracket of a call.
     #[tactic(auto, unfolding(crate::specs::Parts::call_then))]
-    fn call(&self, tokens: &mut Cursor<'_>, word: &Token) -> Result<Boxed<Ast>, Trouble>
+    fn call(&self, tokens: &mut Cursor<'_>, word: &Token) -> Result<Boxed<Ast>, ParseError>
         requires nests { Nests self.now.room (F.pre self.now.nested) (F.post self.now.nested) }
         requires fewer { length tokens.old < self.now.room }
         ensures { Reads Tree (part.call_then word.now tokens.old) result tokens.new }
@@ -117,22 +117,22 @@ impl<F: Fn(Global, Nested, &mut Cursor<'_>) -> Result<Boxed<Ast>, Trouble>> Gram
         )?)
     }
 
-    /// Behind the first bracket of a group.
-    #[tactic(auto, unfolding(crate::specs::Parts::group_then))]
-    fn group(&self, tokens: &mut Cursor<'_>, word: &Token) -> Result<Boxed<Ast>, Trouble>
+    /// Behind the opening parenthesis.
+    #[tactic(auto, unfolding(crate::specs::Parts::paren_then))]
+    fn paren(&self, tokens: &mut Cursor<'_>, word: &Token) -> Result<Boxed<Ast>, ParseError>
         requires nests { Nests self.now.room (F.pre self.now.nested) (F.post self.now.nested) }
         requires fewer { length tokens.old < self.now.room }
-        ensures { Reads Tree (part.group_then word.now tokens.old) result tokens.new }
+        ensures { Reads Tree (part.paren_then word.now tokens.old) result tokens.new }
     {
         let inner = self.expr(tokens)?;
         tokens.expect(Class::Only(Kind::Close))?;
         let at = word.span;
-        Ok(Boxed::new(self.alloc, Ast::Group { at, inner })?)
+        Ok(Boxed::new(self.alloc, Ast::Paren { at, inner })?)
     }
 
     /// Behind the word CAST.
     #[tactic(auto, unfolding(crate::specs::Parts::cast_then))]
-    fn cast_as(&self, tokens: &mut Cursor<'_>, word: &Token) -> Result<Boxed<Ast>, Trouble>
+    fn cast_as(&self, tokens: &mut Cursor<'_>, word: &Token) -> Result<Boxed<Ast>, ParseError>
         requires nests { Nests self.now.room (F.pre self.now.nested) (F.post self.now.nested) }
         requires fewer { length tokens.old < self.now.room }
         ensures { Reads Tree (part.cast_then word.now tokens.old) result tokens.new }
@@ -147,17 +147,24 @@ impl<F: Fn(Global, Nested, &mut Cursor<'_>) -> Result<Boxed<Ast>, Trouble>> Gram
     }
 
     /// Behind COALESCE, GREATEST or LEAST.
-    #[tactic(auto, unfolding(crate::specs::Parts::choice_then))]
-    fn choice(&self, tokens: &mut Cursor<'_>, word: &Token) -> Result<Boxed<Ast>, Trouble>
+    #[tactic(auto, unfolding(crate::specs::Parts::selection_then))]
+    fn selection(&self, tokens: &mut Cursor<'_>, word: &Token) -> Result<Boxed<Ast>, ParseError>
         requires nests { Nests self.now.room (F.pre self.now.nested) (F.post self.now.nested) }
         requires fewer { length tokens.old < self.now.room }
-        ensures { Reads Tree (part.choice_then word.now tokens.old) result tokens.new }
+        ensures { Reads Tree (part.selection_then word.now tokens.old) result tokens.new }
     {
         tokens.expect(Class::Only(Kind::Open))?;
         let args = self.list(tokens)?;
         tokens.expect(Class::Only(Kind::Close))?;
         let at = word.span;
-        let choice = held::choice(word);
-        Ok(Boxed::new(self.alloc, Ast::Choice { at, choice, args })?)
+        let selection = held::selection(word);
+        Ok(Boxed::new(
+            self.alloc,
+            Ast::Selection {
+                at,
+                selection,
+                args,
+            },
+        )?)
     }
 }

@@ -7,14 +7,18 @@ ghost use Rattle.xp_parser.specs.Reading.{Answers, Reads};
 
 use crate::cursor::Cursor;
 use crate::grammar::{Grammar, Nested};
-use crate::trouble::Trouble;
+use crate::parse_error::ParseError;
 use sqlite_items::Boxed;
 use std::alloc::Global;
 use xp_grammar::{Ast, Statement};
 use xp_token::Token;
 
 /// An expression within another.
-fn read_nested(alloc: Global, which: Nested, tokens: &mut Cursor<'_>) -> Result<Boxed<Ast>, Trouble>
+fn read_nested(
+    alloc: Global,
+    which: Nested,
+    tokens: &mut Cursor<'_>,
+) -> Result<Boxed<Ast>, ParseError>
     ensures { Reads Tree (parse (level_of which) tokens.old) result tokens.new }
 {
     let grammar = Grammar {
@@ -30,7 +34,7 @@ fn read_nested(alloc: Global, which: Nested, tokens: &mut Cursor<'_>) -> Result<
 
 /// The statement that all of the tokens are, which have no End among them.
 #[tactic(auto, using(crate::proofs::StatementLaws::read_err, crate::proofs::StatementLaws::read_ended, crate::proofs::StatementLaws::read_on))]
-pub(crate) fn whole(alloc: Global, tokens: &[Token]) -> Result<Statement, Trouble>
+pub(crate) fn whole(alloc: Global, tokens: &[Token]) -> Result<Statement, ParseError>
     ensures { Answers result (read tokens.now) }
 {
     let mut cursor = Cursor::new(tokens);
@@ -44,6 +48,6 @@ pub(crate) fn whole(alloc: Global, tokens: &[Token]) -> Result<Statement, Troubl
     if left == 0 {
         Ok(statement.into_inner())
     } else {
-        Err(Trouble::Syntax { left })
+        Err(ParseError::Syntax { left })
     }
 }

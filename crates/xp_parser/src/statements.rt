@@ -8,7 +8,7 @@ ghost use Rattle.xp_parser.specs.StatementParts as part;
 
 use crate::cursor::Cursor;
 use crate::grammar::{Grammar, Nested};
-use crate::trouble::Trouble;
+use crate::parse_error::ParseError;
 use crate::{held, types};
 use sqlite_items::{Boxed, Items};
 use std::alloc::Global;
@@ -29,9 +29,9 @@ fn united(mut arms: Items<SelectArm>) -> Statement
     Statement::UnionAll { at, arms }
 }
 
-impl<F: Fn(Global, Nested, &mut Cursor<'_>) -> Result<Boxed<Ast>, Trouble>> Grammar<F> {
+impl<F: Fn(Global, Nested, &mut Cursor<'_>) -> Result<Boxed<Ast>, ParseError>> Grammar<F> {
     #[tactic(auto, using(crate::proofs::StatementLaws::item_is), unfolding(crate::specs::StatementParts::item_part))]
-    fn item(&self, tokens: &mut Cursor<'_>) -> Result<Item, Trouble>
+    fn item(&self, tokens: &mut Cursor<'_>) -> Result<Item, ParseError>
         requires nests { Nests self.now.room (F.pre self.now.nested) (F.post self.now.nested) }
         requires fewer { length tokens.old < self.now.room }
         ensures value { Reads Labelled (parse Level.Item tokens.old) result tokens.new }
@@ -52,7 +52,7 @@ impl<F: Fn(Global, Nested, &mut Cursor<'_>) -> Result<Boxed<Ast>, Trouble>> Gram
     }
 
     #[tactic(auto, using(crate::proofs::StatementLaws::items_is, crate::proofs::StatementLaws::more_items), unfolding(crate::specs::StatementParts::more_items_part))]
-    fn items(&self, tokens: &mut Cursor<'_>) -> Result<Items<Item>, Trouble>
+    fn items(&self, tokens: &mut Cursor<'_>) -> Result<Items<Item>, ParseError>
         requires nests { Nests self.now.room (F.pre self.now.nested) (F.post self.now.nested) }
         requires fewer { length tokens.old < self.now.room }
         ensures { Reads Labels (parse Level.Items tokens.old) result tokens.new }
@@ -69,7 +69,7 @@ impl<F: Fn(Global, Nested, &mut Cursor<'_>) -> Result<Boxed<Ast>, Trouble>> Gram
 
     /// SELECTs with UNION ALL between.
     #[tactic(auto, using(xp_grammar::proofs::Turns::parse_less, crate::proofs::StatementLaws::selects_is, crate::proofs::StatementLaws::more_selects), unfolding(crate::specs::StatementParts::select_then, crate::specs::StatementParts::more_selects_part))]
-    fn selects(&self, tokens: &mut Cursor<'_>) -> Result<Items<SelectArm>, Trouble>
+    fn selects(&self, tokens: &mut Cursor<'_>) -> Result<Items<SelectArm>, ParseError>
         requires nests { Nests self.now.room (F.pre self.now.nested) (F.post self.now.nested) }
         requires fewer { length tokens.old ≤ self.now.room }
         ensures value { Reads Selected (parse Level.Selects tokens.old) result tokens.new }
@@ -96,7 +96,7 @@ impl<F: Fn(Global, Nested, &mut Cursor<'_>) -> Result<Boxed<Ast>, Trouble>> Gram
 
     /// The lists of VALUES.
     #[tactic(auto, using(crate::proofs::StatementLaws::rows_is, crate::proofs::StatementLaws::more_rows), unfolding(crate::specs::StatementParts::rows_part, crate::specs::StatementParts::more_rows_part))]
-    fn rows(&self, tokens: &mut Cursor<'_>) -> Result<Items<Exprs>, Trouble>
+    fn rows(&self, tokens: &mut Cursor<'_>) -> Result<Items<Exprs>, ParseError>
         requires nests { Nests self.now.room (F.pre self.now.nested) (F.post self.now.nested) }
         requires fewer { length tokens.old ≤ self.now.room }
         ensures { Reads Lists (parse Level.Rows tokens.old) result tokens.new }
@@ -115,7 +115,7 @@ impl<F: Fn(Global, Nested, &mut Cursor<'_>) -> Result<Boxed<Ast>, Trouble>> Gram
 
     /// Behind the word STORE.
     #[tactic(auto, using(xp_grammar::proofs::Turns::parse_less), unfolding(crate::specs::StatementParts::store_then))]
-    fn store(&self, tokens: &mut Cursor<'_>, word: &Token) -> Result<Boxed<Statement>, Trouble>
+    fn store(&self, tokens: &mut Cursor<'_>, word: &Token) -> Result<Boxed<Statement>, ParseError>
         requires nests { Nests self.now.room (F.pre self.now.nested) (F.post self.now.nested) }
         requires fewer { length tokens.old < self.now.room }
         ensures { Reads Stated (part.store_then word.now tokens.old) result tokens.new }
@@ -130,7 +130,7 @@ impl<F: Fn(Global, Nested, &mut Cursor<'_>) -> Result<Boxed<Ast>, Trouble>> Gram
 
     /// Behind the word EXPLAIN.
     #[tactic(auto, unfolding(crate::specs::StatementParts::explain_then))]
-    fn explain(&self, tokens: &mut Cursor<'_>, word: &Token) -> Result<Boxed<Statement>, Trouble>
+    fn explain(&self, tokens: &mut Cursor<'_>, word: &Token) -> Result<Boxed<Statement>, ParseError>
         requires nests { Nests self.now.room (F.pre self.now.nested) (F.post self.now.nested) }
         requires fewer { length tokens.old < self.now.room }
         ensures { Reads Stated (part.explain_then word.now tokens.old) result tokens.new }
@@ -149,7 +149,7 @@ impl<F: Fn(Global, Nested, &mut Cursor<'_>) -> Result<Boxed<Ast>, Trouble>> Gram
     }
 
     #[tactic(auto, using(crate::proofs::StatementLaws::statement_is), unfolding(crate::specs::StatementParts::statement_part))]
-    pub(crate) fn statement(&self, tokens: &mut Cursor<'_>) -> Result<Boxed<Statement>, Trouble>
+    pub(crate) fn statement(&self, tokens: &mut Cursor<'_>) -> Result<Boxed<Statement>, ParseError>
         requires nests { Nests self.now.room (F.pre self.now.nested) (F.post self.now.nested) }
         requires fewer { length tokens.old ≤ self.now.room }
         ensures { Reads Stated (parse Level.Statement tokens.old) result tokens.new }

@@ -7,7 +7,7 @@ ghost use Rattle.xp_parser.specs.Reading.{Reads};
 
 use crate::cursor::Cursor;
 use crate::held;
-use crate::trouble::Trouble;
+use crate::parse_error::ParseError;
 use std::alloc::Global;
 use xp_base::{Memory, Span};
 use xp_grammar::{Class, Kind, TypeModifier, TypeName, TypeWords};
@@ -32,7 +32,7 @@ fn one_word(alloc: Global, word: &Token) -> Result<Spelling, Memory>
 
 /// Behind the word `double`.
 #[tactic(auto, unfolding(crate::specs::Parts::double_then))]
-fn double(alloc: Global, tokens: &mut Cursor<'_>, word: &Token) -> Result<Spelling, Trouble>
+fn double(alloc: Global, tokens: &mut Cursor<'_>, word: &Token) -> Result<Spelling, ParseError>
     ensures { Reads part.spelling (part.double_then word.now tokens.old) result tokens.new }
 {
     match tokens.eat(Class::Only(Kind::Precision)) {
@@ -46,7 +46,7 @@ fn double(alloc: Global, tokens: &mut Cursor<'_>, word: &Token) -> Result<Spelli
 
 /// Behind the word `character`.
 #[tactic(auto, unfolding(crate::specs::Parts::character_then))]
-fn character(alloc: Global, tokens: &mut Cursor<'_>, word: &Token) -> Result<Spelling, Trouble>
+fn character(alloc: Global, tokens: &mut Cursor<'_>, word: &Token) -> Result<Spelling, ParseError>
     ensures { Reads part.spelling (part.character_then word.now tokens.old) result tokens.new }
 {
     match tokens.eat(Class::Only(Kind::Varying)) {
@@ -60,7 +60,7 @@ fn character(alloc: Global, tokens: &mut Cursor<'_>, word: &Token) -> Result<Spe
 
 /// Behind the word `timestamp` or `time`.
 #[tactic(auto, unfolding(crate::specs::Parts::moment_then))]
-fn moment(alloc: Global, tokens: &mut Cursor<'_>, word: &Token) -> Result<Spelling, Trouble>
+fn moment(alloc: Global, tokens: &mut Cursor<'_>, word: &Token) -> Result<Spelling, ParseError>
     ensures { Reads part.spelling (part.moment_then word.now tokens.old) result tokens.new }
 {
     match tokens.eat(Class::Zoned) {
@@ -78,7 +78,7 @@ fn moment(alloc: Global, tokens: &mut Cursor<'_>, word: &Token) -> Result<Spelli
 
 /// A type's name without modifier and brackets.
 #[tactic(auto, using(crate::proofs::TypeLaws::typename_is), unfolding(crate::specs::Parts::typename_part))]
-fn typename(alloc: Global, tokens: &mut Cursor<'_>) -> Result<Spelling, Trouble>
+fn typename(alloc: Global, tokens: &mut Cursor<'_>) -> Result<Spelling, ParseError>
     ensures { Reads part.spelling (parse Level.Typename tokens.old) result tokens.new }
 {
     if let Some(word) = tokens.eat(Class::Plains) {
@@ -100,7 +100,7 @@ fn modified(
     tokens: &mut Cursor<'_>,
     spelling: Spelling,
     bracket: &Token,
-) -> Result<TypeWords, Trouble>
+) -> Result<TypeWords, ParseError>
     ensures { Reads Named (part.modifier_then (part.spelling spelling) bracket.now tokens.old) result tokens.new }
 {
     let first = tokens.expect(Class::Only(Kind::Whole))?;
@@ -119,7 +119,7 @@ fn modified(
 
 /// A type without brackets.
 #[tactic(auto, using(crate::proofs::TypeLaws::basic_is), unfolding(crate::specs::Parts::basic_part))]
-pub(crate) fn basic(alloc: Global, tokens: &mut Cursor<'_>) -> Result<TypeWords, Trouble>
+pub(crate) fn basic(alloc: Global, tokens: &mut Cursor<'_>) -> Result<TypeWords, ParseError>
     ensures { Reads Named (parse Level.Basic tokens.old) result tokens.new }
 {
     let spelling = typename(alloc, tokens)?;
@@ -136,7 +136,7 @@ pub(crate) fn basic(alloc: Global, tokens: &mut Cursor<'_>) -> Result<TypeWords,
 
 /// A type with its brackets.
 #[tactic(auto, using(crate::proofs::TypeLaws::full_is, crate::proofs::TypeLaws::more_full, crate::proofs::Steps::skipped), unfolding(crate::specs::Parts::brackets_part, crate::specs::Parts::pair_then))]
-pub(crate) fn full(alloc: Global, tokens: &mut Cursor<'_>) -> Result<TypeWords, Trouble>
+pub(crate) fn full(alloc: Global, tokens: &mut Cursor<'_>) -> Result<TypeWords, ParseError>
     ensures { Reads Named (parse Level.Full tokens.old) result tokens.new }
 {
     let mut words = basic(alloc, tokens)?;

@@ -6,7 +6,7 @@ use Rattle.xp_base.specs.declared.numbers.Span.{Span}
 use Rattle.xp_catalog.specs.Contents.{Contents}
 use Rattle.xp_grammar.specs.declared.ast.Ast.{Ast}
 use Rattle.xp_grammar.specs.declared.ast.Ast.TheVariants as e
-use Rattle.xp_grammar.specs.declared.ast.Ast.TheVariants.{rolls-Truth, rolls-Number, rolls-Product, rolls-Column}
+use Rattle.xp_grammar.specs.declared.ast.Ast.TheVariants.{rolls-Bool, rolls-Number, rolls-Product, rolls-Column}
 use Rattle.xp_grammar.specs.declared.ast.Ast.TheFolds.{fold-roll-Ast}
 use Rattle.xp_grammar.specs.declared.ast.Ast.TheOpen.{Ast-F}
 use Rattle.xp_run.specs.Resolve.{Resolution, level, resolved, operation, constant, int4_value}
@@ -15,8 +15,8 @@ use Rattle.xp_run.specs.declared.value.Value.TheVariants.{Truth}
 pub resolved_number : (c : Contents) (at : Span) (value : Dec) (whole : Bool) → resolved c (e.Number at value whole) ≡ option_map (constant c (codes "int4") at) (int4_value value whole)
 resolved_number c at value whole = ap (resolved c) (sym (rolls-Number at value whole)) ∙ fold-roll-Ast Resolution (Unit {0}) (level c) (λ arm. tt) (Ast-F.Number at value whole)
 
-pub resolved_truth : (c : Contents) (at : Span) (value : Bool) → resolved c (e.Truth at value) ≡ Some (constant c (codes "bool") at (Truth value))
-resolved_truth c at value = ap (resolved c) (sym (rolls-Truth at value)) ∙ fold-roll-Ast Resolution (Unit {0}) (level c) (λ arm. tt) (Ast-F.Truth at value)
+pub resolved_truth : (c : Contents) (at : Span) (value : Bool) → resolved c (e.Bool at value) ≡ Some (constant c (codes "bool") at (Truth value))
+resolved_truth c at value = ap (resolved c) (sym (rolls-Bool at value)) ∙ fold-roll-Ast Resolution (Unit {0}) (level c) (λ arm. tt) (Ast-F.Bool at value)
 
 pub resolved_column : (c : Contents) (at : Span) (name : List ℕ) → resolved c (e.Column at name) ≡ None
 resolved_column c at name = ap (resolved c) (sym (rolls-Column at name)) ∙ fold-roll-Ast Resolution (Unit {0}) (level c) (λ arm. tt) (Ast-F.Column at name)

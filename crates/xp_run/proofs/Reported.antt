@@ -46,7 +46,7 @@ raises_read : report small (codes "SELECT 7 / 0") ≡ alone (resolved small (e.P
 unfolding name decimals fraction sign exponent_digits exponent_at raised decimal_of decimal number cut word operator mark_at token comment piece admitted statement lexed number_of spelled is_prefix word_named dec_of first symbol walk choose onward run parse read first_deep parsed answers
 raises_read = refl
 
-undefined_read : report small (codes "SELECT true / 1") ≡ alone (resolved small (e.Product (span 12 13) (codes "/") (e.Truth (span 7 11) true) (number_at 14 1)))
+undefined_read : report small (codes "SELECT true / 1") ≡ alone (resolved small (e.Product (span 12 13) (codes "/") (e.Bool (span 7 11) true) (number_at 14 1)))
 unfolding name decimals fraction sign exponent_digits exponent_at raised decimal_of decimal number cut word operator mark_at token comment piece admitted statement lexed number_of spelled is_prefix word_named dec_of first symbol walk choose onward run parse read first_deep parsed answers
 undefined_read = refl
 
@@ -62,7 +62,7 @@ not_built_read = refl
 abbrev pub pair : Resolution → Resolution → List ℕ
 pair first second = blocks_from small 1 (with_bodies (built (span 0 6) (before first (before second (Some (Resolved []))))) ∷ [])
 
-several_read : report small (codes "SELECT 1, true") ≡ pair (resolved small (number_at 7 1)) (resolved small (e.Truth (span 10 14) true))
+several_read : report small (codes "SELECT 1, true") ≡ pair (resolved small (number_at 7 1)) (resolved small (e.Bool (span 10 14) true))
 unfolding name decimals fraction sign exponent_digits exponent_at raised decimal_of decimal number cut word operator mark_at token comment piece admitted statement lexed number_of spelled is_prefix word_named dec_of first symbol walk choose onward run parse read first_deep parsed answers
 several_read = refl
 
@@ -77,7 +77,7 @@ unclosed_read = refl
 number_is : (at n : ℕ) → resolved small (number_at at n) ≡ whole at n
 number_is at n = resolved_number small (span at (at + 1)) (dec_of false n 0) true
 
-truth_is : (at : ℕ) → resolved small (e.Truth (span at (at + 4)) true) ≡ truth at
+truth_is : (at : ℕ) → resolved small (e.Bool (span at (at + 4)) true) ≡ truth at
 truth_is at = resolved_truth small (span at (at + 4)) true
 
 pub divides : report small (codes "SELECT 7 / 2") ≡ alone (operation small (codes "/") (span 9 10) (whole 7 7) (whole 11 2))
@@ -87,10 +87,10 @@ pub raises : report small (codes "SELECT 7 / 0") ≡ alone (operation small (cod
 raises = raises_read ∙ ap alone (product_of small (span 9 10) (codes "/") (number_at 7 7) (number_at 11 0) (whole 7 7) (whole 11 0) (number_is 7 7) (number_is 11 0))
 
 pub undefined : report small (codes "SELECT true / 1") ≡ alone (operation small (codes "/") (span 12 13) (truth 7) (whole 14 1))
-undefined = undefined_read ∙ ap alone (product_of small (span 12 13) (codes "/") (e.Truth (span 7 11) true) (number_at 14 1) (truth 7) (whole 14 1) (truth_is 7) (number_is 14 1))
+undefined = undefined_read ∙ ap alone (product_of small (span 12 13) (codes "/") (e.Bool (span 7 11) true) (number_at 14 1) (truth 7) (whole 14 1) (truth_is 7) (number_is 14 1))
 
 pub not_built : report small (codes "SELECT 1;  SELECT x") ≡ both (whole 7 1) None
 not_built = not_built_read ∙ ap (λ z. both z (resolved small (e.Column (span 18 19) (codes "x")))) (number_is 7 1) ∙ ap (both (whole 7 1)) (resolved_column small (span 18 19) (codes "x"))
 
 pub several : report small (codes "SELECT 1, true") ≡ pair (whole 7 1) (truth 10)
-several = several_read ∙ ap (λ z. pair z (resolved small (e.Truth (span 10 14) true))) (number_is 7 1) ∙ ap (pair (whole 7 1)) (truth_is 10)
+several = several_read ∙ ap (λ z. pair z (resolved small (e.Bool (span 10 14) true))) (number_is 7 1) ∙ ap (pair (whole 7 1)) (truth_is 10)

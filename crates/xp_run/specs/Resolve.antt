@@ -75,8 +75,8 @@ operation c name at left right = option_and_then (λ l. option_map (λ r. operat
 
 abbrev pub level : Contents → Ast-F Resolution (Unit {0}) → Resolution
 level c (Ast-F.Number at value whole) = option_map (constant c (codes "int4") at) (int4_value value whole)
-level c (Ast-F.Truth at value) = Some (constant c (codes "bool") at (Truth value))
-level c (Ast-F.Group at inner) = option_map (in_group at) inner
+level c (Ast-F.Bool at value) = Some (constant c (codes "bool") at (Truth value))
+level c (Ast-F.Paren at inner) = option_map (in_group at) inner
 level c (Ast-F.Product at name left right) = operation c name at left right
 level c (Ast-F.Sum at name left right) = operation c name at left right
 level c (Ast-F.Compare at name left right) = if is_built name then operation c name at left right else None

@@ -143,8 +143,8 @@ pub fn resolve(catalog: &Catalog, ast: &Ast) -> Option<Result<Typed, Refusal>>
             let value = int4_value(*value, *whole)?;
             Some(constant(catalog, "int4", *at, value))
         }
-        Ast::Truth { at, value } => Some(constant(catalog, "bool", *at, Value::Truth(*value))),
-        Ast::Group { at, inner } => Some(in_group(*at, resolve(catalog, inner.get())?)),
+        Ast::Bool { at, value } => Some(constant(catalog, "bool", *at, Value::Truth(*value))),
+        Ast::Paren { at, inner } => Some(in_group(*at, resolve(catalog, inner.get())?)),
         Ast::Product {
             at,
             name,
