@@ -11,3 +11,4 @@ pub mod Prefix
 pub mod Fix
 pub mod Turns
 pub mod Straight
+pub mod Built

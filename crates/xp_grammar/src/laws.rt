@@ -1,8 +1,9 @@
 //! What holds of the grammar, whatever parser reads by it.
 ghost use Rattle.std.specs.Prelude.{◌≡◌, ℕ, List, Ok, Err};
 ghost use Rattle.xp_token.specs.declared.token.Token.{Token};
+ghost use Rattle.xp_grammar.specs.declared.statement.Statement.{Statement};
 ghost use Rattle.xp_grammar.specs.Reads.{Fault, IsStatement, read};
-ghost use Rattle.xp_grammar.specs.Table.{Value};
+ghost use Rattle.xp_grammar.specs.Table.{Value, Stated};
 
 /// A list of tokens is at most one statement. `read` finds it where there is one, and finds nothing
 /// else; where there is none it names the first token with which no statement continues, by the
@@ -12,4 +13,10 @@ pub fn grammar_has_one_reading()
     ensures sound { (ts : List Token) (v : Value) → read ts ≡ Ok v → IsStatement ts v }
     ensures complete { (ts : List Token) (v : Value) → IsStatement ts v → read ts ≡ Ok v }
     ensures fault { (ts : List Token) (n : ℕ) → read ts ≡ Err n → Fault ts n }
+{}
+
+/// Whatever is derived as a statement builds one: no line of the grammar builds `Wrong` of what is
+/// derived from its symbols. It does nothing: its contract is the law.
+pub fn derivation_builds_a_statement()
+    ensures { (ts : List Token) (v : Value) → IsStatement ts v → (s : Statement) × (v ≡ Stated s) }
 {}
