@@ -1,5 +1,5 @@
 -- No function of a catalogue yields `any`, by the rules that its records keep.
-use Rattle.std.proofs.Common.{◌≡◌, ℕ, zero, suc, ◌<◌, List, [], ◌∷◌, ◌++◌, Bool, true, false, ◌&&◌, not, cond, length, slice_get, Some, refl, ap, subst, ◌∙◌, arith}
+use Rattle.std.proofs.Common.{◌≡◌, ℕ, zero, suc, ◌<◌, List, [], ◌∷◌, ◌++◌, Bool, true, false, ◌&&◌, not, cond, length, slice_get, Option, Some, None, refl, ap, subst, ◌∙◌, arith}
 use Rattle.std.specs.Prelude.{codes, nat_le}
 use Rattle.std.specs.Str.{bytes_eq}
 use Rattle.std.specs.List.{All, list_all}
@@ -7,6 +7,7 @@ use Rattle.std.specs.Option.{option_map_or}
 use Rattle.std.proofs.lemmas.Option.{get_or_from_slice_get, slice_get_within}
 use Rattle.std.proofs.lemmas.List.Elements.{All-append, All-cons, All-nil, All-weaker}
 use Rattle.std.proofs.lemmas.Bool.{and_parts, not-true}
+use Rattle.xp_catalog.specs.declared.rows.PseudoType.{PseudoType}
 use Rattle.xp_catalog.specs.declared.rows.TypeKind.TheVariants as kind
 use Rattle.xp_catalog.specs.declared.rows.TypeRow.{TypeRow}
 use Rattle.xp_catalog.specs.declared.rows.FuncRow.{FuncRow}
@@ -14,7 +15,7 @@ use Rattle.xp_catalog.specs.declared.record.Record.{Record}
 use Rattle.xp_catalog.specs.declared.record.Record.TheVariants as row
 use Rattle.xp_catalog.specs.Contents.{Contents, added, array_row, first_contents, type_row}
 use Rattle.xp_catalog.specs.Rules.{first_family, has_good_last, has_member, is_called, is_known, keeps_rules, second_family}
-use Rattle.xp_catalog.specs.Spelling.{is_among, pseudo_names}
+use Rattle.xp_catalog.specs.Spelling.{pseudo_type}
 use Rattle.xp_catalog.specs.WellFormed.{IsBuilt, more, nothing}
 use Rattle.xp_catalog.proofs.Keeps.{keeps-each, known-within}
 
@@ -31,15 +32,14 @@ Stay-append [] ys k within = absurd (omega arith)
 Stay-append (x ∷ xs) ys zero within = (omega arith, refl)
 Stay-append (x ∷ xs) ys (suc k) within = let later = Stay-append xs ys k (omega arith) in let more : k < length (xs ++ ys) = later.0 in (omega arith, later.1)
 
-Stay-either : (test : Bool) (xs ys zs : List TypeRow) → Stay xs (cond test (xs ++ ys) (xs ++ zs))
-Stay-either true xs ys zs = Stay-append xs ys
-Stay-either false xs ys zs = Stay-append xs zs
+Stay-either : (pseudo : Option PseudoType) (xs : List TypeRow) (ys : PseudoType → List TypeRow) (zs : List TypeRow) → Stay xs (option_map_or (λ p. xs ++ ys p) pseudo (xs ++ zs))
+Stay-either (Some p) xs ys zs = Stay-append xs (ys p)
+Stay-either None xs ys zs = Stay-append xs zs
 
 Stay-added : (before : Contents) (r : Record) → Stay before.types (added before r).types
 Stay-added before (row.Plain name category preferred line) =
-    let one = type_row name category preferred kind.Pseudo line in
     let type = type_row name category preferred kind.Plain line in
-    Stay-either (is_among pseudo_names name) before.types (one ∷ []) (type ∷ array_row (length before.types) type ∷ [])
+    Stay-either (pseudo_type name) before.types (λ p. type_row name category preferred (kind.Pseudo p) line ∷ []) (type ∷ array_row (length before.types) type ∷ [])
 Stay-added before (row.Range name subtype line) = Stay-append before.types _
 Stay-added before (row.Domain name base not_null check line) = Stay-append before.types _
 Stay-added before (row.Cast cast) = λ k within. (within, refl)

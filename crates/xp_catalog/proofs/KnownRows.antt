@@ -1,10 +1,11 @@
 -- The numbers of a catalogue's rows are those of rows, by the rules that its records keep.
-use Rattle.std.proofs.Common.{◌≡◌, ℕ, zero, suc, ◌+◌, ◌*◌, ◌<◌, ◌≤◌, List, [], ◌∷◌, ◌++◌, Bool, true, false, cond, length, length-append, Option, Some, None, IfSome, slice_get, refl, sym, subst, arith}
+use Rattle.std.proofs.Common.{◌≡◌, ℕ, zero, suc, ◌+◌, ◌*◌, ◌<◌, ◌≤◌, List, [], ◌∷◌, ◌++◌, Bool, true, false, length, length-append, Option, Some, None, IfSome, slice_get, refl, sym, subst, arith}
 use Rattle.std.specs.Option.{option_map_or}
 use Rattle.std.specs.List.{All, list_all}
 use Rattle.std.proofs.lemmas.List.Elements.{All-append, All-cons, All-nil, All-push, All-weaker}
 use Rattle.std.proofs.lemmas.Bool.{and_parts}
 use Rattle.xp_base.specs.declared.numbers.TypeNo.{TypeNo}
+use Rattle.xp_catalog.specs.declared.rows.PseudoType.{PseudoType}
 use Rattle.xp_catalog.specs.declared.rows.TypeKind.{TypeKind}
 use Rattle.xp_catalog.specs.declared.rows.TypeKind.TheVariants as kind
 use Rattle.xp_catalog.specs.declared.rows.TypeRow.{TypeRow}
@@ -21,7 +22,7 @@ use Rattle.xp_catalog.specs.Contents.{Contents, added, array_row, category_at, f
 use Rattle.xp_catalog.specs.Known.{IsKnown, IsKnownCast, IsKnownDomain, IsKnownFunc, IsKnownKind, IsKnownMethod, IsKnownOper, IsKnownRange}
 use Rattle.xp_catalog.specs.Lookups.{operands}
 use Rattle.xp_catalog.specs.Rules.{has_cast_function, is_known, keeps_rules}
-use Rattle.xp_catalog.specs.Spelling.{is_among, pseudo_names}
+use Rattle.xp_catalog.specs.Spelling.{pseudo_type}
 use Rattle.xp_catalog.specs.WellFormed.{HasRoom, IsBuilt, IsWellFormed, more, nothing}
 use Rattle.xp_catalog.proofs.Keeps.{Keeps, keeps-each, known-all, known-within}
 
@@ -35,7 +36,7 @@ pub record Grows (c d : Contents) : Type 0 where
 
 kind_later : (c d : Contents) → Grows c d → (k : TypeKind) → IsKnownKind c k → IsKnownKind d k
 kind_later c d g kind.Plain p = tt
-kind_later c d g kind.Pseudo p = tt
+kind_later c d g (kind.Pseudo pseudo) p = tt
 kind_later c d g (kind.Array element) p = omega (arith, g.types)
 kind_later c d g (kind.Range number) p = omega (arith, g.ranges)
 kind_later c d g (kind.Domain number) p = omega (arith, g.domains)
@@ -134,13 +135,13 @@ operands_known c (Some left) right h =
     let rest = (and_parts (is_known c left) (list_all (is_known c) (right ∷ [])) h).1 in
     (known-within c left (and_parts (is_known c left) (list_all (is_known c) (right ∷ [])) h).0, known-within c right (and_parts (is_known c right) true rest).0)
 
-abbrev with_plain : Bool → Contents → List ℕ → ℕ → Bool → ℕ → Contents
-with_plain b c name category preferred line = record c { types = cond b (c.types ++ type_row name category preferred kind.Pseudo line ∷ []) (with_array c.types (type_row name category preferred kind.Plain line)) }
+abbrev with_plain : Option PseudoType → Contents → List ℕ → ℕ → Bool → ℕ → Contents
+with_plain pseudo c name category preferred line = record c { types = option_map_or (λ p. c.types ++ type_row name category preferred (kind.Pseudo p) line ∷ []) pseudo (with_array c.types (type_row name category preferred kind.Plain line)) }
 
-plain_known : (b : Bool) (c : Contents) (name : List ℕ) (category : ℕ) (preferred : Bool) (line : ℕ) → AreKnown c c → AreKnown (with_plain b c name category preferred line) (with_plain b c name category preferred line)
-plain_known true c name category preferred line p =
-    let type : TypeRow = type_row name category preferred kind.Pseudo line in
-    let d : Contents = with_plain true c name category preferred line in
+plain_known : (pseudo : Option PseudoType) (c : Contents) (name : List ℕ) (category : ℕ) (preferred : Bool) (line : ℕ) → AreKnown c c → AreKnown (with_plain pseudo c name category preferred line) (with_plain pseudo c name category preferred line)
+plain_known (Some pseudo) c name category preferred line p =
+    let type : TypeRow = type_row name category preferred (kind.Pseudo pseudo) line in
+    let d : Contents = with_plain (Some pseudo) c name category preferred line in
     let count : length d.types ≡ length c.types + 1 = length-one c.types type in
     let grows : Grows c d = record { types = omega arith; funcs = omega arith; domains = omega arith; ranges = omega arith } in
     let old : AreKnown c d = all_later c d grows p in
@@ -152,9 +153,9 @@ plain_known true c name category preferred line p =
       domains = old.domains;
       ranges = old.ranges;
     }
-plain_known false c name category preferred line p =
+plain_known None c name category preferred line p =
     let type : TypeRow = type_row name category preferred kind.Plain line in
-    let d : Contents = with_plain false c name category preferred line in
+    let d : Contents = with_plain None c name category preferred line in
     let count : length d.types ≡ length c.types + 2 = length-with_array c.types type in
     let grows : Grows c d = record { types = omega arith; funcs = omega arith; domains = omega arith; ranges = omega arith } in
     let old : AreKnown c d = all_later c d grows p in
@@ -168,7 +169,7 @@ plain_known false c name category preferred line p =
     }
 
 added_known : (c : Contents) (r : Record) → AreKnown c c → Keeps c r → AreKnown (added c r) (added c r)
-added_known c (row.Plain name category preferred line) p k = plain_known (is_among pseudo_names name) c name category preferred line p
+added_known c (row.Plain name category preferred line) p k = plain_known (pseudo_type name) c name category preferred line p
 added_known c (row.Range name subtype line) p k =
     let type : TypeRow = type_row name 82 false (kind.Range (record { 0 = length c.ranges })) line in
     let range : RangeRow = record { name = name; ty = record { 0 = length c.types }; subtype = subtype; line = line } in
@@ -266,12 +267,12 @@ record HasRowsOf (n : ℕ) (c : Contents) : Type 0 where
   domains : length c.domains ≤ n
   ranges : length c.ranges ≤ n
 
-plain_rows : (b : Bool) (n : ℕ) (c : Contents) (name : List ℕ) (category : ℕ) (preferred : Bool) (line : ℕ) → HasRowsOf n c → HasRowsOf (n + 1) (with_plain b c name category preferred line)
-plain_rows true n c name category preferred line h = record { types = rw length-append (omega (arith, h.types)); casts = omega (arith, h.casts); funcs = omega (arith, h.funcs); opers = omega (arith, h.opers); domains = omega (arith, h.domains); ranges = omega (arith, h.ranges) }
-plain_rows false n c name category preferred line h = record { types = rw length-append (omega (arith, h.types)); casts = omega (arith, h.casts); funcs = omega (arith, h.funcs); opers = omega (arith, h.opers); domains = omega (arith, h.domains); ranges = omega (arith, h.ranges) }
+plain_rows : (pseudo : Option PseudoType) (n : ℕ) (c : Contents) (name : List ℕ) (category : ℕ) (preferred : Bool) (line : ℕ) → HasRowsOf n c → HasRowsOf (n + 1) (with_plain pseudo c name category preferred line)
+plain_rows (Some pseudo) n c name category preferred line h = record { types = rw length-append (omega (arith, h.types)); casts = omega (arith, h.casts); funcs = omega (arith, h.funcs); opers = omega (arith, h.opers); domains = omega (arith, h.domains); ranges = omega (arith, h.ranges) }
+plain_rows None n c name category preferred line h = record { types = rw length-append (omega (arith, h.types)); casts = omega (arith, h.casts); funcs = omega (arith, h.funcs); opers = omega (arith, h.opers); domains = omega (arith, h.domains); ranges = omega (arith, h.ranges) }
 
 added_rows : (n : ℕ) (c : Contents) (r : Record) → HasRowsOf n c → HasRowsOf (n + 1) (added c r)
-added_rows n c (row.Plain name category preferred line) h = plain_rows (is_among pseudo_names name) n c name category preferred line h
+added_rows n c (row.Plain name category preferred line) h = plain_rows (pseudo_type name) n c name category preferred line h
 added_rows n c (row.Range name subtype line) h = record { types = rw length-append (omega (arith, h.types)); casts = omega (arith, h.casts); funcs = omega (arith, h.funcs); opers = omega (arith, h.opers); domains = omega (arith, h.domains); ranges = rw length-append (omega (arith, h.ranges)) }
 added_rows n c (row.Domain name base not_null check line) h = record { types = rw length-append (omega (arith, h.types)); casts = omega (arith, h.casts); funcs = omega (arith, h.funcs); opers = omega (arith, h.opers); domains = rw length-append (omega (arith, h.domains)); ranges = omega (arith, h.ranges) }
 added_rows n c (row.Cast cast) h = record { types = omega (arith, h.types); casts = rw length-append (omega (arith, h.casts)); funcs = omega (arith, h.funcs); opers = omega (arith, h.opers); domains = omega (arith, h.domains); ranges = omega (arith, h.ranges) }

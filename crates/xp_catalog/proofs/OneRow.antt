@@ -1,5 +1,6 @@
 -- What a look-up takes is had by one row of a catalogue at most.
 use Rattle.std.proofs.Common.{◌≡◌, ℕ, ◌<◌, List, [], ◌∷◌, ◌++◌, Bool, true, false, not, cond, codes, length, length-append, get_or, Option, Some, None, is_some, option_map, ◌⊎◌, inl, inr, refl, sym, ◌∙◌, append_assoc, arith}
+use Rattle.std.specs.Option.{option_map_or}
 use Rattle.std.specs.List.{All, AllPairs, Any, list_all, position}
 use Rattle.std.specs.Str.{bytes_eq}
 use Rattle.std.proofs.Math.Bool.{and-false}
@@ -10,6 +11,7 @@ use Rattle.std.proofs.lemmas.List.Elements.{All-append, All-cons, All-nil, All-p
 use Rattle.std.proofs.lemmas.List.Folds.{list_all-append}
 use Rattle.std.proofs.lemmas.List.Quantifiers.{all_pairs_push}
 use Rattle.std.proofs.lemmas.Slice.Eq.{bytes_eq-Decides}
+use Rattle.xp_catalog.specs.declared.rows.PseudoType.{PseudoType}
 use Rattle.xp_catalog.specs.declared.rows.TypeKind.TheVariants as kind
 use Rattle.xp_catalog.specs.declared.rows.TypeRow.{TypeRow}
 use Rattle.xp_catalog.specs.declared.rows.CastRow.{CastRow}
@@ -20,7 +22,7 @@ use Rattle.xp_catalog.specs.declared.record.Record.TheVariants as row
 use Rattle.xp_catalog.specs.Contents.{Contents, added, array_row, category_at, first_contents, type_row, unknown_row, with_array}
 use Rattle.xp_catalog.specs.Lookups.{has_arguments, has_operands, has_type_name, is_between, operands, row_number, type_named, type_number}
 use Rattle.xp_catalog.specs.OneRow.{HasOneRowEach}
-use Rattle.xp_catalog.specs.Spelling.{is_among, is_name, is_name_byte, is_type_name, pseudo_names}
+use Rattle.xp_catalog.specs.Spelling.{is_name, is_name_byte, is_type_name, pseudo_type}
 use Rattle.xp_catalog.specs.WellFormed.{IsBuilt, more, nothing}
 use Rattle.xp_catalog.proofs.Keeps.{Keeps, keeps-each}
 use Rattle.xp_catalog.proofs.Places.{AllPairs-push, position-None}
@@ -116,13 +118,13 @@ new_name c name spelled new = no_type (bytes_eq name (codes "unknown")) (positio
 
 -- ---- what is built has one row each
 
-told_with_plain : (b : Bool) (types : List TypeRow) (pseudo type : TypeRow) → pseudo.name ≡ type.name → AreTold types → IsWord type.name → position (has_type_name type.name) types ≡ None → AreTold (cond b (types ++ pseudo ∷ []) (with_array types type))
-told_with_plain true types pseudo type e told w none = told_with types pseudo told (rw e w) (rw e none)
-told_with_plain false types pseudo type e told w none = told_with_array types type told w none
+told_with_plain : (pseudo : Option PseudoType) (types : List TypeRow) (as_pseudo : PseudoType → TypeRow) (type : TypeRow) → ((p : PseudoType) → (as_pseudo p).name ≡ type.name) → AreTold types → IsWord type.name → position (has_type_name type.name) types ≡ None → AreTold (option_map_or (λ p. types ++ as_pseudo p ∷ []) pseudo (with_array types type))
+told_with_plain (Some p) types as_pseudo type e told w none = told_with types (as_pseudo p) told (rw (e p) w) (rw (e p) none)
+told_with_plain None types as_pseudo type e told w none = told_with_array types type told w none
 
 added_types : (c : Contents) (r : Record) → AreTold c.types → Keeps c r → AreTold (added c r).types
 added_types c (row.Plain name category preferred line) told k =
-    told_with_plain (is_among pseudo_names name) c.types (type_row name category preferred kind.Pseudo line) (type_row name category preferred kind.Plain line) refl told (word_of_name name k.name) (new_name c name k.name k.new)
+    told_with_plain (pseudo_type name) c.types (λ p. type_row name category preferred (kind.Pseudo p) line) (type_row name category preferred kind.Plain line) (λ p. refl) told (word_of_name name k.name) (new_name c name k.name k.new)
 added_types c (row.Range name subtype line) told k =
     told_with_array c.types (type_row name 82 false (kind.Range (record { 0 = length c.ranges })) line) told (word_of_name name k.name) (new_name c name k.name k.new)
 added_types c (row.Domain name base not_null check line) told k =

@@ -1,5 +1,5 @@
 -- The contents of a catalogue, and what a record adds to them (manual 52; CREATE TYPE, CREATE DOMAIN for arrays).
-use Rattle.std.specs.Prelude.{ℕ, List, [], ◌∷◌, ◌++◌, Bool, false, cond, length, codes, slice_get}
+use Rattle.std.specs.Prelude.{ℕ, List, [], ◌∷◌, ◌++◌, Bool, false, length, codes, slice_get}
 use Rattle.std.specs.Option.{option_map_or}
 use Rattle.xp_base.specs.declared.numbers.TypeNo.{TypeNo}
 use Rattle.xp_catalog.specs.declared.rows.TypeKind.{TypeKind}
@@ -12,7 +12,7 @@ use Rattle.xp_catalog.specs.declared.rows.DomainRow.{DomainRow}
 use Rattle.xp_catalog.specs.declared.rows.RangeRow.{RangeRow}
 use Rattle.xp_catalog.specs.declared.record.Record.{Record}
 use Rattle.xp_catalog.specs.declared.record.Record.TheVariants as row
-use Rattle.xp_catalog.specs.Spelling.{is_among, pseudo_names}
+use Rattle.xp_catalog.specs.Spelling.{pseudo_type}
 
 -- the rows in file order; a type's number is its place in the list of types
 pub record Contents : Type 0 where
@@ -51,7 +51,7 @@ type_row name category preferred kind line = record { name = name; category = ca
 
 abbrev pub with_type : List TypeRow → List ℕ → ℕ → Bool → ℕ → List TypeRow
 with_type types name category preferred line =
-    cond (is_among pseudo_names name) (types ++ type_row name category preferred kind.Pseudo line ∷ []) (with_array types (type_row name category preferred kind.Plain line))
+    option_map_or (λ pseudo. types ++ type_row name category preferred (kind.Pseudo pseudo) line ∷ []) (pseudo_type name) (with_array types (type_row name category preferred kind.Plain line))
 
 abbrev pub category_at : List TypeRow → TypeNo → ℕ
 category_at types type = option_map_or (λ row. row.category) (slice_get types type.0) 0

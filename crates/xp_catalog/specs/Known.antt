@@ -15,7 +15,7 @@ use Rattle.xp_catalog.specs.Contents.{Contents}
 -- an array's element, a range's row and a domain's row are there
 abbrev pub IsKnownKind : Contents → TypeKind → Type 0
 IsKnownKind c kind.Plain = Unit {0}
-IsKnownKind c kind.Pseudo = Unit {0}
+IsKnownKind c (kind.Pseudo pseudo) = Unit {0}
 IsKnownKind c (kind.Array element) = element.0 < length c.types
 IsKnownKind c (kind.Range number) = number.0 < length c.ranges
 IsKnownKind c (kind.Domain number) = number.0 < length c.domains

@@ -14,7 +14,7 @@ use Rattle.xp_catalog.specs.declared.record.Record.{Record}
 use Rattle.xp_catalog.specs.declared.record.Record.TheVariants as row
 use Rattle.xp_catalog.specs.Contents.{Contents}
 use Rattle.xp_catalog.specs.Lookups.{cast_between, func_at, oper_at, operands, same_types, type_named}
-use Rattle.xp_catalog.specs.Spelling.{is_among, is_letter_of, is_name, is_operator_name, is_type_name, plain_names, pseudo_names, range_names, text_names}
+use Rattle.xp_catalog.specs.Spelling.{is_among, is_letter_of, is_name, is_operator_name, is_type_name, is_pseudo_name, plain_names, range_names, text_names}
 
 -- ---- what is asked of a type
 
@@ -36,7 +36,7 @@ is_domain_kind (kind.Domain number) = true
 is_domain_kind _ = false
 
 abbrev pub is_pseudo_kind : TypeKind → Bool
-is_pseudo_kind kind.Pseudo = true
+is_pseudo_kind (kind.Pseudo pseudo) = true
 is_pseudo_kind _ = false
 
 -- a type that records may name: one of the rows before, but not `unknown`
@@ -111,10 +111,10 @@ is_range_over name subtype =
 -- BadBase
 abbrev pub has_good_base : Contents → Record → Bool
 has_good_base c (row.Plain name category preferred line) = not (is_among range_names name)
-has_good_base c (row.Range name subtype line) = not (is_among plain_names name) && not (is_among pseudo_names name) && is_range_over name (name_of c subtype)
+has_good_base c (row.Range name subtype line) = not (is_among plain_names name) && not (is_pseudo_name name) && is_range_over name (name_of c subtype)
 has_good_base c (row.Domain name base not_null check line) =
     not (is_domain_kind (kind_of c base)) && not (is_pseudo_kind (kind_of c base))
-    && not (is_among plain_names name) && not (is_among pseudo_names name) && not (is_among range_names name)
+    && not (is_among plain_names name) && not (is_pseudo_name name) && not (is_among range_names name)
 has_good_base c _ = true
 
 -- the polymorphic types that are one type in a call, and those that are brought to one (manual 38.2.5)

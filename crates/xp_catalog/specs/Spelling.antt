@@ -1,7 +1,9 @@
--- How names, letters and flags of records are spelled (manual 4.1.1, 4.1.3, 52.65).
-use Rattle.std.specs.Prelude.{ℕ, ◌-◌, List, [], ◌∷◌, Bool, false, ◌==◌, ◌&&◌, ◌||◌, not, cond, length, nat_lt, nat_le, slice_index, codes}
+-- How names, letters and flags of records are spelled (manual 4.1.1, 4.1.3, 53.64).
+use Rattle.std.specs.Prelude.{ℕ, ◌-◌, List, [], ◌∷◌, Bool, false, ◌==◌, ◌&&◌, ◌||◌, not, cond, length, nat_lt, nat_le, slice_index, codes, Option, Some, None, is_some}
 use Rattle.std.specs.List.{list_all, list_any}
 use Rattle.std.specs.Str.{bytes_eq}
+use Rattle.xp_catalog.specs.declared.rows.PseudoType.{PseudoType}
+use Rattle.xp_catalog.specs.declared.rows.PseudoType.TheVariants as pseudo
 
 abbrev pub is_digit : ℕ → Bool
 is_digit b = nat_le 48 b && nat_le b 57
@@ -18,11 +20,21 @@ is_name name = nat_lt 0 (length name) && nat_le (length name) 63 && list_all is_
 abbrev pub is_among : List (List ℕ) → List ℕ → Bool
 is_among words word = list_any (bytes_eq word) words
 
--- the names of pseudo-types (manual 8.21)
-abbrev pub pseudo_names : List (List ℕ)
-pseudo_names =
-    codes "any" ∷ codes "anyelement" ∷ codes "anyarray" ∷ codes "anynonarray" ∷ codes "anyrange"
-    ∷ codes "anycompatible" ∷ codes "anycompatiblearray" ∷ codes "anycompatiblenonarray" ∷ codes "anycompatiblerange" ∷ []
+-- the pseudo-type of that name (manual 8.21)
+abbrev pub pseudo_type : List ℕ → Option PseudoType
+pseudo_type name =
+    cond (bytes_eq name (codes "any")) (Some pseudo.Any) (
+    cond (bytes_eq name (codes "anyelement")) (Some pseudo.AnyElement) (
+    cond (bytes_eq name (codes "anyarray")) (Some pseudo.AnyArray) (
+    cond (bytes_eq name (codes "anynonarray")) (Some pseudo.AnyNonArray) (
+    cond (bytes_eq name (codes "anyrange")) (Some pseudo.AnyRange) (
+    cond (bytes_eq name (codes "anycompatible")) (Some pseudo.AnyCompatible) (
+    cond (bytes_eq name (codes "anycompatiblearray")) (Some pseudo.AnyCompatibleArray) (
+    cond (bytes_eq name (codes "anycompatiblenonarray")) (Some pseudo.AnyCompatibleNonArray) (
+    cond (bytes_eq name (codes "anycompatiblerange")) (Some pseudo.AnyCompatibleRange) None))))))))
+
+abbrev pub is_pseudo_name : List ℕ → Bool
+is_pseudo_name name = is_some (pseudo_type name)
 
 -- names that only records of ranges may give
 abbrev pub range_names : List (List ℕ)
@@ -47,7 +59,7 @@ text_names = codes "text" ∷ codes "varchar" ∷ codes "bpchar" ∷ []
 -- the categories that a type of that name may have
 abbrev pub letters_of : List ℕ → List ℕ
 letters_of name =
-    cond (is_among pseudo_names name) (codes "P") (
+    cond (is_pseudo_name name) (codes "P") (
     cond (bytes_eq name (codes "bool")) (codes "B") (
     cond (is_among number_names name) (codes "N") (
     cond (is_among text_names name) (codes "S") (

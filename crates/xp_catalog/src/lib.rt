@@ -16,8 +16,8 @@ pub use header::{Header, HeaderColumn};
 pub use laws::look_ups_find_the_one_row;
 pub use record::Record;
 pub use rows::{
-    CastMethod, CastRow, Context, DomainRow, FuncRow, OperRow, RangeRow, TypeKind, TypeRow,
-    Volatility,
+    CastMethod, CastRow, Context, DomainRow, FuncRow, OperRow, PseudoType, RangeRow, TypeKind,
+    TypeRow, Volatility,
 };
 pub use why::{CatFault, Why};
 

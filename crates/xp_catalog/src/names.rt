@@ -2,8 +2,9 @@
 ghost use Rattle.std.specs.Prelude.{◌≡◌, ◌<◌, IfOk, length, ◌==◌};
 ghost use Rattle.std.specs.List.{list_all, list_any};
 ghost use Rattle.std.specs.Str.{IsAscii};
-ghost use Rattle.xp_catalog.specs.Spelling.{begins_with, has_pair, is_among, is_digit, is_flag, is_letter_of, is_name, is_name_byte, is_operator, is_operator_byte, is_operator_name, is_sign, is_special_byte, is_type_name, letters_of, may_end, number_names, plain_names, pseudo_names, range_names, text_names};
+ghost use Rattle.xp_catalog.specs.Spelling.{begins_with, has_pair, is_among, is_digit, is_flag, is_letter_of, is_name, is_name_byte, is_operator, is_operator_byte, is_operator_name, is_sign, is_special_byte, is_type_name, letters_of, may_end, number_names, is_pseudo_name, plain_names, pseudo_type, range_names, text_names};
 
+use crate::PseudoType;
 use std::alloc::Global;
 use xp_base::{Memory, Name};
 
@@ -36,19 +37,38 @@ pub fn is_name(name: &[u8]) -> bool
     name.len() <= 63 && has_name_bytes(name) && !is_digit(first)
 }
 
+/// The pseudo-type of that name.
+pub fn pseudo_type(name: &[u8]) -> Option<PseudoType>
+    ensures { result ≡ pseudo_type name.now }
+{
+    if name == b"any".as_slice() {
+        Some(PseudoType::Any)
+    } else if name == b"anyelement".as_slice() {
+        Some(PseudoType::AnyElement)
+    } else if name == b"anyarray".as_slice() {
+        Some(PseudoType::AnyArray)
+    } else if name == b"anynonarray".as_slice() {
+        Some(PseudoType::AnyNonArray)
+    } else if name == b"anyrange".as_slice() {
+        Some(PseudoType::AnyRange)
+    } else if name == b"anycompatible".as_slice() {
+        Some(PseudoType::AnyCompatible)
+    } else if name == b"anycompatiblearray".as_slice() {
+        Some(PseudoType::AnyCompatibleArray)
+    } else if name == b"anycompatiblenonarray".as_slice() {
+        Some(PseudoType::AnyCompatibleNonArray)
+    } else if name == b"anycompatiblerange".as_slice() {
+        Some(PseudoType::AnyCompatibleRange)
+    } else {
+        None
+    }
+}
+
 /// Whether the bytes name a pseudo-type.
 pub fn is_pseudo(name: &[u8]) -> bool
-    ensures { result ≡ is_among pseudo_names name.now }
+    ensures { result ≡ is_pseudo_name name.now }
 {
-    name == b"any".as_slice()
-        || name == b"anyelement".as_slice()
-        || name == b"anyarray".as_slice()
-        || name == b"anynonarray".as_slice()
-        || name == b"anyrange".as_slice()
-        || name == b"anycompatible".as_slice()
-        || name == b"anycompatiblearray".as_slice()
-        || name == b"anycompatiblenonarray".as_slice()
-        || name == b"anycompatiblerange".as_slice()
+    pseudo_type(name).is_some()
 }
 
 /// Whether the bytes are a name that only a record of a range may give.

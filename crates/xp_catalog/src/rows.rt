@@ -31,11 +31,25 @@ pub enum CastMethod {
     Function(RowNo),
 }
 
+/// The pseudo-types that stand for a type of each call (manual 8.21, 38.2.5).
+#[derive(Clone, Copy, Debug, PartialEq, Eq)]
+pub enum PseudoType {
+    Any,
+    AnyElement,
+    AnyArray,
+    AnyNonArray,
+    AnyRange,
+    AnyCompatible,
+    AnyCompatibleArray,
+    AnyCompatibleNonArray,
+    AnyCompatibleRange,
+}
+
 /// What a type is made of. A range and a domain have a row of their own.
 #[derive(Clone, Copy, Debug, PartialEq, Eq)]
 pub enum TypeKind {
     Plain,
-    Pseudo,
+    Pseudo(PseudoType),
     Array { element: TypeNo },
     Range { row: RowNo },
     Domain { row: RowNo },
@@ -45,7 +59,7 @@ pub enum TypeKind {
 #[derive(Debug, Drop)]
 pub struct TypeRow {
     pub name: Name,
-    /// The letter of its category (manual 52.65).
+    /// The letter of its category (manual 53.64).
     pub category: u8,
     pub preferred: bool,
     pub kind: TypeKind,

@@ -4,8 +4,8 @@ ghost use Rattle.xp_catalog.specs.Worked.{after, worked};
 
 use crate::names::{is_operator_name, new_name};
 use crate::{
-    CastMethod, CastRow, Catalog, Context, Counts, FuncRow, Header, HeaderColumn, OperRow, Record,
-    TypeKind, Volatility, Why,
+    CastMethod, CastRow, Catalog, Context, Counts, FuncRow, Header, HeaderColumn, OperRow,
+    PseudoType, Record, TypeKind, Volatility, Why,
 };
 use sqlite_items::Items;
 use std::alloc::Global;
@@ -235,7 +235,7 @@ fn type_rows_keep_what_their_records_say(rt: HostRuntime) -> Result<(), Fail> {
         ("int4[]", b'A', false, array(1), 1),
         ("text", b'S', true, TypeKind::Plain, 2),
         ("text[]", b'A', false, array(3), 2),
-        ("any", b'P', false, TypeKind::Pseudo, 3),
+        ("any", b'P', false, TypeKind::Pseudo(PseudoType::Any), 3),
         (
             "int4range",
             b'R',

@@ -2,7 +2,7 @@
 ghost use Rattle.std.specs.Prelude.{◌≡◌, ◌^◌, ◌<◌, [], ◌∷◌, ◌++◌, IfOk, codes, length, string_bytes};
 ghost use Rattle.xp_catalog.specs.Contents.{array_row, category_at, type_row, unknown_row, with_array, with_type};
 
-use crate::names::is_pseudo;
+use crate::names::pseudo_type;
 use crate::{TypeKind, TypeRow};
 use sqlite_items::Items;
 use std::alloc::{AllocError, Global};
@@ -83,14 +83,14 @@ pub fn with_type(
     requires { length types < 2 ^ 32 }
     ensures { IfOk result (λ list. list ≡ with_type types name category preferred line) }
 {
-    if is_pseudo(name.as_str().as_bytes()) {
+    if let Some(pseudo) = pseudo_type(name.as_str().as_bytes()) {
         return pushed(
             types,
             TypeRow {
                 name,
                 category,
                 preferred,
-                kind: TypeKind::Pseudo,
+                kind: TypeKind::Pseudo(pseudo),
                 line,
             },
         );

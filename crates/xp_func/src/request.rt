@@ -20,7 +20,7 @@ fn is_castable(c: &Catalog, input: TypeNo, ty: TypeNo) -> bool
     requires ty { ty.0 < length c.now.types }
     ensures { result ≡ is_castable c.now input ty }
 {
-    if c.type_row(ty).kind == TypeKind::Pseudo {
+    if matches!(c.type_row(ty).kind, TypeKind::Pseudo(_)) {
         return false;
     }
     match path(c, input, ty, Context::Explicit) {

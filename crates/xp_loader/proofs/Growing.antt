@@ -1,6 +1,7 @@
 -- What stays so while rows are added behind those that are there.
 use Rattle.std.proofs.Common.{◌≡◌, ℕ, zero, suc, List, [], ◌∷◌, ◌++◌, Bool, true, false, cond, ◌&&◌, Option, Some, None, refl, sym, get_or}
 use Rattle.std.specs.Prelude.{slice_get}
+use Rattle.std.specs.Option.{option_map_or}
 use Rattle.std.specs.List.{All}
 use Rattle.std.proofs.lemmas.List.{append-nil}
 use Rattle.std.proofs.lemmas.List.Elements.{All-append, All-cons, All-nil}
@@ -8,12 +9,14 @@ use Rattle.std.proofs.Math.Bool.{beq}
 use Rattle.std.proofs.lemmas.Bool.{and_parts, and_from}
 use Rattle.xp_base.specs.declared.numbers.BodyNo.{BodyNo}
 use Rattle.xp_base.specs.declared.numbers.TypeNo.{TypeNo}
+use Rattle.xp_catalog.specs.declared.rows.PseudoType.{PseudoType}
 use Rattle.xp_catalog.specs.declared.record.Record.{Record}
 use Rattle.xp_catalog.specs.declared.record.Record.TheVariants as row
 use Rattle.xp_catalog.specs.declared.rows.FuncRow.{FuncRow}
+use Rattle.xp_catalog.specs.declared.rows.TypeKind.TheVariants as kind
 use Rattle.xp_catalog.specs.declared.rows.TypeRow.{TypeRow}
-use Rattle.xp_catalog.specs.Contents.{Contents, added}
-use Rattle.xp_catalog.specs.Spelling.{is_among, pseudo_names}
+use Rattle.xp_catalog.specs.Contents.{Contents, added, type_row}
+use Rattle.xp_catalog.specs.Spelling.{pseudo_type}
 use Rattle.xp_bodies.specs.Fits.{IsFitted, agrees, agrees_with, are_named, fits, fits_with, has_name, is_as_loose, is_named}
 use Rattle.xp_bodies.specs.Row.{Row}
 use Rattle.xp_bodies.specs.Table.{bodies}
@@ -24,12 +27,12 @@ use Rattle.xp_loader.specs.Refusing.{fits_body}
 abbrev pub Grown : List TypeRow → List TypeRow → Type 0
 Grown before after = (more : List TypeRow) × (after ≡ before ++ more)
 
-either_more : (b : Bool) (types more other : List TypeRow) → Grown types (cond b (types ++ more) (types ++ other))
-either_more true types more other = (more, refl)
-either_more false types more other = (other, refl)
+either_more : (pseudo : Option PseudoType) (types : List TypeRow) (more : PseudoType → List TypeRow) (other : List TypeRow) → Grown types (option_map_or (λ p. types ++ more p) pseudo (types ++ other))
+either_more (Some p) types more other = (more p, refl)
+either_more None types more other = (other, refl)
 
 pub types-added : (c : Contents) (r : Record) → Grown c.types (added c r).types
-types-added c (row.Plain name category preferred line) = either_more (is_among pseudo_names name) c.types _ _
+types-added c (row.Plain name category preferred line) = either_more (pseudo_type name) c.types (λ p. type_row name category preferred (kind.Pseudo p) line ∷ []) _
 types-added c (row.Range name subtype line) = (_, refl)
 types-added c (row.Domain name base not_null check line) = (_, refl)
 types-added c (row.Cast cast) = ([], sym (append-nil c.types))

@@ -63,7 +63,7 @@ fn is_domain(c: &Catalog, t: TypeNo) -> bool
 fn is_pseudo_type(c: &Catalog, t: TypeNo) -> bool
     ensures { result ≡ is_pseudo_kind (kind_of c.now t) }
 {
-    matches!(kind_of(c, t), TypeKind::Pseudo)
+    matches!(kind_of(c, t), TypeKind::Pseudo(_))
 }
 
 /// Whether a type is one over which a record's kind may define one, and the name one which it may give.

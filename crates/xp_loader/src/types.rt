@@ -52,7 +52,7 @@ fn inner(c: &Catalog, t: TypeNo) -> Option<TypeNo>
     match kind_of(c, t) {
         TypeKind::Array { element } => Some(element),
         TypeKind::Domain { row } => Some(base_of(c, row, t)),
-        TypeKind::Plain | TypeKind::Pseudo | TypeKind::Range { .. } => None,
+        TypeKind::Plain | TypeKind::Pseudo(_) | TypeKind::Range { .. } => None,
     }
 }
 

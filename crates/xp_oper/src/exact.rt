@@ -12,7 +12,7 @@ fn may_match(c: &Catalog, ty: TypeNo) -> bool
     requires { ty.0 < length c.now.types }
     ensures { result ≡ may_match c.now ty }
 {
-    is_known(ty) && c.type_row(ty).kind != TypeKind::Pseudo
+    is_known(ty) && !matches!(c.type_row(ty).kind, TypeKind::Pseudo(_))
 }
 
 fn all_may_match(c: &Catalog, types: &[TypeNo]) -> bool

@@ -1,8 +1,9 @@
 -- A domain is over no domain.
-use Rattle.std.proofs.Common.{◌≡◌, ℕ, zero, suc, ◌+◌, ◌-◌, ◌<◌, List, [], ◌∷◌, ◌++◌, Bool, true, false, ◌&&◌, not, length, refl, sym, ◌∙◌, ap, arith, length-append, append-nil, Some, slice_get, subst, inl, inr}
+use Rattle.std.proofs.Common.{◌≡◌, ℕ, zero, suc, ◌+◌, ◌-◌, ◌<◌, List, [], ◌∷◌, ◌++◌, Bool, true, false, ◌&&◌, not, length, refl, sym, ◌∙◌, ap, arith, length-append, append-nil, Option, Some, None, slice_get, subst, inl, inr}
 use Rattle.std.specs.Option.{option_map_or}
 use Rattle.std.proofs.lemmas.Bool.{cases_lt}
 use Rattle.xp_base.specs.declared.numbers.TypeNo.{TypeNo}
+use Rattle.xp_catalog.specs.declared.rows.PseudoType.{PseudoType}
 use Rattle.xp_catalog.specs.declared.rows.TypeKind.TheVariants as kind
 use Rattle.xp_catalog.specs.declared.rows.TypeRow.{TypeRow}
 use Rattle.xp_catalog.specs.declared.rows.DomainRow.{DomainRow}
@@ -10,7 +11,7 @@ use Rattle.xp_catalog.specs.declared.record.Record.{Record}
 use Rattle.xp_catalog.specs.declared.record.Record.TheVariants as row
 use Rattle.xp_catalog.specs.Contents.{Contents, added, array_row, type_row, with_type}
 use Rattle.xp_catalog.specs.Rules.{is_domain_kind, keeps_rules, kind_of}
-use Rattle.xp_catalog.specs.Spelling.{is_among, pseudo_names}
+use Rattle.xp_catalog.specs.Spelling.{pseudo_type}
 use Rattle.xp_catalog.specs.WellFormed.{IsBuilt, IsWellFormed}
 use Rattle.xp_catalog.specs.WellFormed.IsBuilt.{nothing, more}
 use Rattle.xp_catalog.proofs.Keeps.{Keeps, keeps-each, known-within}
@@ -20,11 +21,11 @@ use Rattle.xp_types.proofs.Places.{slice_get_new, slice_get_old}
 
 -- what a record puts behind the types
 more_types : (c : Contents) (r : Record) → (behind : List TypeRow) × ((added c r).types ≡ c.types ++ behind)
-more_types c (row.Plain name category preferred line) = go (is_among pseudo_names name) refl
+more_types c (row.Plain name category preferred line) = go (pseudo_type name) refl
   where
-    go : (b : Bool) → is_among pseudo_names name ≡ b → (behind : List TypeRow) × (with_type c.types name category preferred line ≡ c.types ++ behind)
-    go true is = (type_row name category preferred kind.Pseudo line ∷ [], rw is refl)
-    go false is = (type_row name category preferred kind.Plain line ∷ array_row (length c.types) (type_row name category preferred kind.Plain line) ∷ [], rw is refl)
+    go : (found : Option PseudoType) → pseudo_type name ≡ found → (behind : List TypeRow) × (with_type c.types name category preferred line ≡ c.types ++ behind)
+    go (Some pseudo) is = (type_row name category preferred (kind.Pseudo pseudo) line ∷ [], rw is refl)
+    go None is = (type_row name category preferred kind.Plain line ∷ array_row (length c.types) (type_row name category preferred kind.Plain line) ∷ [], rw is refl)
 more_types c (row.Range name subtype line) = (_, refl)
 more_types c (row.Domain name base not_null check line) = (_, refl)
 more_types c (row.Cast cast) = ([], sym (append-nil c.types))

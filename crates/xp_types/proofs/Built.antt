@@ -3,13 +3,14 @@ use Rattle.std.proofs.Common.{◌≡◌, ℕ, zero, suc, ◌+◌, ◌<◌, List,
 use Rattle.std.specs.Option.{option_map_or}
 use Rattle.std.proofs.lemmas.Option.{slice_get-get_or, slice_get_within}
 use Rattle.xp_base.specs.declared.numbers.TypeNo.{TypeNo}
+use Rattle.xp_catalog.specs.declared.rows.PseudoType.{PseudoType}
 use Rattle.xp_catalog.specs.declared.rows.TypeKind.{TypeKind}
 use Rattle.xp_catalog.specs.declared.rows.TypeKind.TheVariants as kind
 use Rattle.xp_catalog.specs.declared.rows.TypeRow.{TypeRow}
 use Rattle.xp_catalog.specs.declared.record.Record.{Record}
 use Rattle.xp_catalog.specs.declared.record.Record.TheVariants as row
 use Rattle.xp_catalog.specs.Contents.{Contents, added, category_at, type_row, unknown_row, with_type}
-use Rattle.xp_catalog.specs.Spelling.{is_among, pseudo_names}
+use Rattle.xp_catalog.specs.Spelling.{pseudo_type}
 use Rattle.xp_catalog.specs.Lookups.{type_number}
 use Rattle.xp_catalog.specs.WellFormed.{IsBuilt, IsWellFormed}
 use Rattle.xp_catalog.specs.WellFormed.IsBuilt.{nothing, more}
@@ -18,11 +19,11 @@ use Rattle.xp_types.proofs.Pairs.{IsPaired, element_at, element_within, has_arra
 use Rattle.xp_types.proofs.Places.{only_place, no_place}
 
 paired_type : (types : List TypeRow) (name : List ℕ) (category : ℕ) (preferred : Bool) (line : ℕ) → IsPaired types → IsPaired (with_type types name category preferred line)
-paired_type types name category preferred line before = go (is_among pseudo_names name) refl
+paired_type types name category preferred line before = go (pseudo_type name) refl
   where
-    go : (b : Bool) → is_among pseudo_names name ≡ b → IsPaired (with_type types name category preferred line)
-    go true is = rw is (paired_alone types (type_row name category preferred kind.Pseudo line) before refl refl)
-    go false is = rw is (paired_both types (type_row name category preferred kind.Plain line) before refl refl)
+    go : (found : Option PseudoType) → pseudo_type name ≡ found → IsPaired (with_type types name category preferred line)
+    go (Some pseudo) is = rw is (paired_alone types (type_row name category preferred (kind.Pseudo pseudo) line) before refl refl)
+    go None is = rw is (paired_both types (type_row name category preferred kind.Plain line) before refl refl)
 
 -- a record keeps arrays directly behind the types of their elements
 paired_added : (c : Contents) (r : Record) → IsPaired c.types → IsPaired (added c r).types
@@ -143,7 +144,7 @@ over_is t (Some e) is = let same : e.0 ≡ t.0 = grind (arith, is) in ap (λ n. 
 
 no_element : (kind : TypeKind) → has_array_type kind ≡ true → element_by kind ≡ None
 no_element kind.Plain has = refl
-no_element kind.Pseudo has = refl
+no_element (kind.Pseudo pseudo) has = refl
 no_element (kind.Array element) has = absurd (grind (arith, has))
 no_element (kind.Range number) has = refl
 no_element (kind.Domain number) has = refl

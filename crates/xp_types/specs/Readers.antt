@@ -59,7 +59,7 @@ is_array_over type row = option_map_or (is_same type) (element_by row.kind) fals
 -- arrays, pseudo-types and unknown have no array type, all others have one
 abbrev pub has_array_type : TypeKind → Bool
 has_array_type (kind.Array element) = false
-has_array_type kind.Pseudo = false
+has_array_type (kind.Pseudo pseudo) = false
 has_array_type _ = true
 
 abbrev pub has_array : Contents → TypeNo → Bool
