@@ -2,23 +2,28 @@
 use crate::{integers, values};
 use anyhow::{Result, bail};
 use std::alloc::Global;
+use xp_cases::Answers;
 
-/// The answer to a case.
-pub fn answer(alloc: Global, line: &str) -> Result<String> {
-    let (word, rest) = line.split_once(' ').unwrap_or((line, ""));
-    match word {
-        "arithmetic" => integers::arithmetic(alloc, rest),
-        "signs" => integers::signs(alloc, rest),
-        "bits" => integers::bits(alloc, rest),
-        "shifts" => integers::shifts(alloc, rest),
-        "hex" => integers::hex(alloc, rest),
-        "casts" => integers::casts(alloc, rest),
-        "bool" => integers::as_bool(alloc, rest),
-        "compare" => integers::compare(alloc, rest),
-        "compare-bool" => integers::compare_bool(alloc, rest),
-        "order" => values::order_text(alloc, rest),
-        "ascending" => values::ascending_text(alloc, rest),
-        "copy" => values::copy_text(alloc, rest),
-        _ => bail!("no such word"),
+/// The cases of bodies and values.
+pub struct Bodies;
+
+impl Answers for Bodies {
+    fn answer(&self, alloc: Global, case: &str) -> Result<String> {
+        let (word, rest) = case.split_once(' ').unwrap_or((case, ""));
+        match word {
+            "arithmetic" => integers::arithmetic(alloc, rest),
+            "signs" => integers::signs(alloc, rest),
+            "bits" => integers::bits(alloc, rest),
+            "shifts" => integers::shifts(alloc, rest),
+            "hex" => integers::hex(alloc, rest),
+            "casts" => integers::casts(alloc, rest),
+            "bool" => integers::as_bool(alloc, rest),
+            "compare" => integers::compare(alloc, rest),
+            "compare-bool" => integers::compare_bool(alloc, rest),
+            "order" => values::order_text(alloc, rest),
+            "ascending" => values::ascending_text(alloc, rest),
+            "copy" => values::copy_text(alloc, rest),
+            _ => bail!("no such word"),
+        }
     }
 }
