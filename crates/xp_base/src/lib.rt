@@ -29,6 +29,3 @@ pub use outside::{Failed, LoadFault, Shelf, Sink};
 pub use quiet::{QuietShelf, QuietSink};
 pub use texts::{Byts, Name, Txt};
 pub use want::Memory;
-
-#[cfg(test)]
-mod tests;
