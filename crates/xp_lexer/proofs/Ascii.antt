@@ -4,8 +4,9 @@ use Rattle.std.proofs.lemmas.Bool.{and_parts}
 use Rattle.std.proofs.lemmas.Bool.Decides.{nat_tests}
 use Rattle.std.specs.List.{prefix_len}
 use Rattle.std.specs.Str.{IsAscii}
-use Rattle.xp_lexer.specs.Bytes.{Text, first, is_name_byte, is_operator_byte, is_sign, is_free, opens_comment}
-use Rattle.xp_lexer.specs.Cutting.{operator_len}
+use Rattle.xp_base.specs.Operators.{is_operator_byte, is_sign, is_special_byte}
+use Rattle.xp_lexer.specs.Bytes.{Text, first, is_name_byte, opens_comment}
+use Rattle.xp_lexer.specs.inner.Cutting.{operator_len}
 use Rattle.xp_lexer.specs.Meaning.{goes_on}
 
 at_place : (b : ℕ) (z : Text) → b < 128 → IsAscii z → IsAscii (b ∷ z)
@@ -42,12 +43,12 @@ operator_within : (z : Text) (len kept : ℕ) (free : Bool) → operator_len len
 operator_within [] len kept true = omega arith
 operator_within [] len kept false = omega arith
 operator_within (b ∷ z) len kept free =
-    by (goes_on b (first z)) refl (is_sign b) free (operator_within z (len + 1) kept (free || is_free b)) (operator_within z (len + 1) (len + 1) (free || is_free b))
+    by (goes_on b (first z)) refl (is_sign b) free (operator_within z (len + 1) kept (free || is_special_byte b)) (operator_within z (len + 1) (len + 1) (free || is_special_byte b))
   where
     by : (v : Bool) → goes_on b (first z) ≡ v → (s free : Bool)
-        → operator_len (len + 1) kept (free || is_free b) z ≤ max kept (len + 1 + prefix_len is_operator_byte z)
-        → operator_len (len + 1) (len + 1) (free || is_free b) z ≤ max (len + 1) (len + 1 + prefix_len is_operator_byte z)
-        → cond v (operator_len (len + 1) (cond s kept (len + 1)) (free || is_free b) z) (cond free len kept) ≤ max kept (len + prefix_len is_operator_byte (b ∷ z))
+        → operator_len (len + 1) kept (free || is_special_byte b) z ≤ max kept (len + 1 + prefix_len is_operator_byte z)
+        → operator_len (len + 1) (len + 1) (free || is_special_byte b) z ≤ max (len + 1) (len + 1 + prefix_len is_operator_byte z)
+        → cond v (operator_len (len + 1) (cond s kept (len + 1)) (free || is_special_byte b) z) (cond free len kept) ≤ max kept (len + prefix_len is_operator_byte (b ∷ z))
     by true e true free h k = rw ((and_parts (is_operator_byte b) (not (opens_comment b (first z))) e).0) (omega arith)
     by true e false free h k = rw ((and_parts (is_operator_byte b) (not (opens_comment b (first z))) e).0) (omega arith)
     by false e s true h k = omega arith

@@ -2,10 +2,10 @@
 use Rattle.std.proofs.Common.{◌≡◌, ℕ, zero, suc, ◌+◌, ◌-◌, ◌<◌, ◌≤◌, Bool, true, false, not, ◌&&◌, ◌||◌, ◌==◌, cond, [], ◌∷◌, ◌++◌, length, Option, Some, None, Result, Ok, Err, ◌⊎◌, inl, inr, refl, sym, ap, subst, ◌∙◌, arith, append_assoc}
 use Rattle.std.proofs.lemmas.Bool.{and_parts}
 use Rattle.std.proofs.lemmas.Bool.Decides.{nat_tests}
-use Rattle.xp_lexer.specs.declared.trouble.Trouble.{Trouble}
-use Rattle.xp_lexer.specs.declared.trouble.Trouble.TheVariants as trouble
+use Rattle.xp_lexer.specs.declared.scan_error.ScanError.{ScanError}
+use Rattle.xp_lexer.specs.declared.scan_error.ScanError.TheVariants as error
 use Rattle.xp_lexer.specs.Bytes.{Text, is_space}
-use Rattle.xp_lexer.specs.Cutting.{◌>>=◌, continued, part, all_parts, string}
+use Rattle.xp_lexer.specs.inner.Cutting.{◌>>=◌, continued, part, all_parts, string}
 use Rattle.xp_lexer.specs.Meaning.{clean_len}
 use Rattle.xp_token.specs.Lexemes.{Constant}
 use Rattle.xp_lexer.specs.Grammar.{Quoted, IsClean, Continues, Parts, BadParts}
@@ -41,7 +41,7 @@ continues_found s (b ∷ z) q e = by (s && b == 39) refl (is_space b) refl (cont
     by false f true g more e = let (rest, h, c) = more e in (rest, h, Continues.space s b z rest g c)
 
 -- the text so far, with a part and all parts that follow
-abbrev pub text_of : Text → Text → Result (Text × Text) Trouble
+abbrev pub text_of : Text → Text → Result (Text × Text) ScanError
 text_of acc z = part 39 z >>= (λ p. all_parts (acc ++ p.0) p.1)
 
 no_more : (z : Text) → ((next : Text) → Continues false z next → ⊥) → continued false z ≡ None
@@ -60,13 +60,13 @@ parts_are acc z text rest (Parts.last y raw t r q clean none) = rw (part_is 39 y
 parts_are acc z text rest (Parts.more y raw t behind next others r q clean c behind_it) =
     goes_on acc y raw t behind next q clean c ∙ parts_are (acc ++ t) next others r behind_it ∙ ap (λ x. Ok (x, r)) (append_assoc acc t others)
 
-pub bad_parts_are : (acc z : Text) (t : Trouble) → BadParts z t → text_of acc z ≡ Err t
+pub bad_parts_are : (acc z : Text) (t : ScanError) → BadParts z t → text_of acc z ≡ Err t
 bad_parts_are acc z t (BadParts.unclosed y open_) = rw (part_open 39 y open_) refl
 bad_parts_are acc z t (BadParts.spoilt y raw text rest q less) = rw (part_spoilt 39 y raw text rest q less) refl
 bad_parts_are acc z t (BadParts.later y raw text behind next u q clean c behind_it) = goes_on acc y raw text behind next q clean c ∙ bad_parts_are (acc ++ text) next u behind_it
 
 abbrev pub HasParts : Text → Type 0
-HasParts z = ((text : Text) × (rest : Text) × Parts z text rest) ⊎ ((t : Trouble) × BadParts z t)
+HasParts z = ((text : Text) × (rest : Text) × Parts z text rest) ⊎ ((t : ScanError) × BadParts z t)
 
 quoted_shorter : (q : ℕ) (z raw text rest : Text) → Quoted q z raw text rest → length rest < length z
 quoted_shorter q z raw text rest (Quoted.ends r e) = omega arith
@@ -89,13 +89,13 @@ clean_so z raw text behind q clean go = by (continued false behind) refl
 
 quoted_so : (z raw text behind : Text) → Quoted 39 z raw text behind → ((next : Text) → length next < length z → HasParts next) → HasParts z
 quoted_so z raw text behind q go = elim (clean_cases raw) [
-  | inl less ↦ inr (trouble.BadByte (length z - clean_len raw), BadParts.spoilt z raw text behind q less)
+  | inl less ↦ inr (error.BadByte (length z - clean_len raw), BadParts.spoilt z raw text behind q less)
   | inr clean ↦ clean_so z raw text behind q clean go
 ]
 
 parts_step : (z : Text) → ((next : Text) → length next < length z → HasParts next) → HasParts z
 parts_step z go = elim (quoted_cases 39 z) [
-  | inl open_ ↦ inr (trouble.Unclosed (length z + 1), BadParts.unclosed z open_)
+  | inl open_ ↦ inr (error.Unclosed (length z + 1), BadParts.unclosed z open_)
   | inr q ↦ quoted_so z q.0 q.1 q.2 q.3 go
 ]
 
@@ -111,6 +111,6 @@ pub string_is : (z text rest : Text) → Parts z text rest → string z ≡ Ok (
 unfolding string
 string_is z text rest h = rw (parts_are [] z text rest h) refl
 
-pub string_bad : (z : Text) (t : Trouble) → BadParts z t → string z ≡ Err t
+pub string_bad : (z : Text) (t : ScanError) → BadParts z t → string z ≡ Err t
 unfolding string
 string_bad z t h = rw (bad_parts_are [] z t h) refl

@@ -10,7 +10,7 @@ use Rattle.xp_token.specs.declared.words.Word.{Word}
 use Rattle.xp_lexer.specs.Bytes.{Text, first}
 use Rattle.xp_token.specs.Lexemes.{Lexeme, Placed, NumberOf, TooWide, EndOf, all_placed}
 use Rattle.xp_lexer.specs.Meaning.{Answer, number_of, named, is_absent, token_at}
-use Rattle.xp_lexer.specs.Cutting.{lexed, Answers}
+use Rattle.xp_lexer.specs.Lexed.{lexed, Answers}
 use Rattle.xp_token.specs.Ended.{is_end, is_ended, is_plain, are_plain}
 use Rattle.xp_lexer.specs.Grammar.{Reads, Passes, Stops, Fraction, scaled, IsAnswer}
 use Rattle.xp_lexer.proofs.Answering.{reads_no_end, passes_are, right_of}

@@ -2,7 +2,7 @@
 use Rattle.std.proofs.Common.{◌≡◌, ℕ, ◌+◌, ◌-◌, ◌<◌, Bool, true, false, ◌&&◌, ◌==◌, cond, [], ◌∷◌, Option, Some, None, refl, sym, subst, ◌∙◌, arith}
 use Rattle.std.proofs.lemmas.Bool.Decides.{nat_tests}
 use Rattle.xp_lexer.specs.Bytes.{Text}
-use Rattle.xp_lexer.specs.Cutting.{line_rest, comment_rest}
+use Rattle.xp_lexer.specs.inner.Cutting.{line_rest, comment_rest}
 use Rattle.xp_lexer.specs.Grammar.{Line, Comments}
 
 pub line_is : (z rest : Text) → Line z rest → line_rest z ≡ rest

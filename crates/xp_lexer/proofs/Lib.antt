@@ -11,5 +11,6 @@ pub mod Quotes
 pub mod Quoting
 pub mod Runs
 pub mod Shorter
+pub mod Spelling
 pub mod Tokens
 pub mod Whole

@@ -9,7 +9,7 @@ use Rattle.xp_lexer.specs.declared.numbers.Exponent.{Exponent}
 use Rattle.xp_lexer.specs.declared.numbers.Exponent.TheVariants as shift
 use Rattle.xp_lexer.specs.Bytes.{Text, first, is_decimal}
 use Rattle.xp_token.specs.Lexemes.{Lexeme, NumberOf, TooWide}
-use Rattle.xp_lexer.specs.Cutting.{digits, decimals, fraction, sign, signed, exponent_digits, exponent_at, raised, shifted, decimal_of, decimal, names_base, number}
+use Rattle.xp_lexer.specs.inner.Cutting.{digits, decimals, fraction, sign, signed, exponent_digits, exponent_at, raised, shifted, decimal_of, decimal, names_base, number}
 use Rattle.xp_lexer.specs.Meaning.{number_of, is_absent, base_of, begins_number}
 use Rattle.xp_lexer.specs.Grammar.{Digits, Decimals, Fraction, Sign, Power, exponent, is_exponent_letter, scaled, Based, Reads}
 

@@ -2,17 +2,17 @@
 use Rattle.std.proofs.Common.{◌≡◌, ℕ, zero, suc, ◌+◌, ◌<◌, ◌≤◌, Bool, true, false, not, ◌&&◌, ◌||◌, ◌==◌, cond, [], ◌∷◌, ◌++◌, length, take, drop, Option, Some, None, Result, Ok, Err, refl, sym, subst, ◌∙◌, arith}
 use Rattle.std.specs.Prelude.{nat_lt}
 use Rattle.std.proofs.lemmas.List.{length-drop}
-use Rattle.xp_lexer.specs.declared.trouble.Trouble.{Trouble}
+use Rattle.xp_lexer.specs.declared.scan_error.ScanError.{ScanError}
 use Rattle.xp_lexer.specs.Bytes.{Text, is_space}
-use Rattle.xp_lexer.specs.declared.trouble.Trouble.TheVariants as trouble
-use Rattle.xp_lexer.specs.Cutting.{◌>>=◌, Fails, undoubled, raw_len, part_of, part, continued, then_more, more_parts, all_parts}
+use Rattle.xp_lexer.specs.declared.scan_error.ScanError.TheVariants as error
+use Rattle.xp_lexer.specs.inner.Cutting.{◌>>=◌, Fails, undoubled, raw_len, part_of, part, continued, then_more, more_parts, all_parts}
 use Rattle.xp_lexer.specs.Meaning.{clean_len}
 
-pub bind_same : {A B : Type 0} (r : Result A Trouble) (f g : A → Result B Trouble) → ((x : A) → r ≡ Ok x → f x ≡ g x) → (r >>= f) ≡ (r >>= g)
+pub bind_same : {A B : Type 0} (r : Result A ScanError) (f g : A → Result B ScanError) → ((x : A) → r ≡ Ok x → f x ≡ g x) → (r >>= f) ≡ (r >>= g)
 bind_same (Ok x) f g same = same x refl
 bind_same (Err e) f g same = refl
 
-pub bind_ok : {A B : Type 0} (r : Result A Trouble) (f : A → Result B Trouble) (y : B) → (r >>= f) ≡ Ok y → (x : A) × (r ≡ Ok x) × (f x ≡ Ok y)
+pub bind_ok : {A B : Type 0} (r : Result A ScanError) (f : A → Result B ScanError) (y : B) → (r >>= f) ≡ Ok y → (x : A) × (r ≡ Ok x) × (f x ≡ Ok y)
 bind_ok (Ok x) f y e = (x, refl, e)
 bind_ok (Err t) f y e = absurd cc
 
@@ -24,7 +24,7 @@ pub part_shorter : (quote : ℕ) (z : Text) (p : Text × Text) → part quote z 
 unfolding part
 part_shorter quote z p e = by (raw_len quote false 0 z) refl e
   where
-    chosen : (n : ℕ) (v : Bool) (t : Trouble) → 0 < length z → cond v (Err t) (Ok (undoubled quote false (take n z), drop (n + 1) z)) ≡ Ok p → length p.1 < length z
+    chosen : (n : ℕ) (v : Bool) (t : ScanError) → 0 < length z → cond v (Err t) (Ok (undoubled quote false (take n z), drop (n + 1) z)) ≡ Ok p → length p.1 < length z
     chosen n true t some e = absurd cc
     chosen n false t some e = let q : (undoubled quote false (take n z), drop (n + 1) z) ≡ p = cc in subst (λ (y : Text × Text). length y.1 < length z) q (omega (arith, length-drop (n + 1) z))
 
@@ -71,8 +71,8 @@ all_parts_more text (b ∷ z) q e =
 pub all_parts_goes : (text z q t : Text) (p : Text × Text) → Some q ≡ continued false z → t ≡ drop 1 q → part 39 t ≡ Ok p → all_parts text z ≡ all_parts (text ++ p.0) p.1
 all_parts_goes text z q t p e f g = all_parts_more text z q (sym e) ∙ rw (← f, g) refl
 
-pub all_parts_fails : (text z q t : Text) (x : Trouble) → Some q ≡ continued false z → t ≡ drop 1 q → Fails x (part 39 t) → Fails x (all_parts text z)
-all_parts_fails text z q t trouble.Memory e f g = tt
-all_parts_fails text z q t (trouble.BadByte left) e f g = all_parts_more text z q (sym e) ∙ rw (← f, g) refl
-all_parts_fails text z q t (trouble.Unclosed left) e f g = all_parts_more text z q (sym e) ∙ rw (← f, g) refl
-all_parts_fails text z q t (trouble.TooManyTokens left) e f g = all_parts_more text z q (sym e) ∙ rw (← f, g) refl
+pub all_parts_fails : (text z q t : Text) (x : ScanError) → Some q ≡ continued false z → t ≡ drop 1 q → Fails x (part 39 t) → Fails x (all_parts text z)
+all_parts_fails text z q t error.Memory e f g = tt
+all_parts_fails text z q t (error.BadByte left) e f g = all_parts_more text z q (sym e) ∙ rw (← f, g) refl
+all_parts_fails text z q t (error.Unclosed left) e f g = all_parts_more text z q (sym e) ∙ rw (← f, g) refl
+all_parts_fails text z q t (error.TooManyTokens left) e f g = all_parts_more text z q (sym e) ∙ rw (← f, g) refl

@@ -1,7 +1,7 @@
 -- Products with powers of ten that stand still at 10 ^ 38.
 use Rattle.std.proofs.Common.{◌≡◌, ◌≢◌, ℕ, ◌-◌, ◌*◌, ◌^◌, ◌<◌, ◌≤◌, min, refl, arith, lit<}
 use Rattle.std.proofs.Math.Nat.{pow-le-pow_right, mul-le-mul_right}
-use Rattle.xp_lexer.specs.Cutting.{raised}
+use Rattle.xp_lexer.specs.inner.Cutting.{raised}
 
 pub ten_fits : (k : ℕ) → k ≤ 38 → 10 ^ k < 2 ^ 128
 ten_fits k h = let most : 10 ^ k ≤ 10 ^ 38 = pow-le-pow_right (lit< tt) h in omega arith

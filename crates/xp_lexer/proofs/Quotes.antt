@@ -9,7 +9,7 @@ use Rattle.std.proofs.Math.Utf8.{scalar, scalars}
 use Rattle.std.specs.Str.{IsUtf8}
 use Rattle.std.specs.Prelude.{encode_utf8, encode_utf8_all}
 use Rattle.xp_lexer.specs.Bytes.{Text}
-use Rattle.xp_lexer.specs.Cutting.{undoubled}
+use Rattle.xp_lexer.specs.inner.Cutting.{undoubled}
 use Rattle.xp_lexer.specs.Meaning.{nonzero_len, clean_len}
 
 pub clean_all : (raw : Text) (n : ℕ) → n ≡ nonzero_len raw → IsUtf8 (take n raw) → n ≡ clean_len raw

@@ -4,9 +4,9 @@ use Rattle.std.specs.Prelude.{nat_lt}
 use Rattle.std.proofs.lemmas.Bool.{cases_lt}
 use Rattle.std.proofs.lemmas.Bool.Decides.{nat_tests}
 use Rattle.std.proofs.lemmas.Str.{utf8_valid_len_le}
-use Rattle.xp_lexer.specs.declared.trouble.Trouble.TheVariants as trouble
+use Rattle.xp_lexer.specs.declared.scan_error.ScanError.TheVariants as error
 use Rattle.xp_lexer.specs.Bytes.{Text}
-use Rattle.xp_lexer.specs.Cutting.{undoubled, raw_len, part_of, part}
+use Rattle.xp_lexer.specs.inner.Cutting.{undoubled, raw_len, part_of, part}
 use Rattle.xp_lexer.specs.Meaning.{nonzero_len, clean_len}
 use Rattle.xp_lexer.specs.Grammar.{Quoted, IsClean, IsOpen}
 
@@ -96,7 +96,7 @@ part_is q z raw text rest h clean =
     let whole : nat_lt (clean_len raw) (length raw) ≡ false = grind (arith, nat_tests) in
     rw (e, f.front, whole, f.once, f.behind) refl
 
-pub part_spoilt : (q : ℕ) (z raw text rest : Text) → Quoted q z raw text rest → clean_len raw < length raw → part q z ≡ Err (trouble.BadByte (length z - clean_len raw))
+pub part_spoilt : (q : ℕ) (z raw text rest : Text) → Quoted q z raw text rest → clean_len raw < length raw → part q z ≡ Err (error.BadByte (length z - clean_len raw))
 unfolding part
 part_spoilt q z raw text rest h less =
     let f = quoted_is q z raw text rest h 0 in
@@ -104,10 +104,10 @@ part_spoilt q z raw text rest h less =
     let short : nat_lt (clean_len raw) (length raw) ≡ true = grind (arith, nat_tests) in
     rw (e, f.front, short) refl
 
-pub part_open : (q : ℕ) (z : Text) → IsOpen q z → part q z ≡ Err (trouble.Unclosed (length z + 1))
+pub part_open : (q : ℕ) (z : Text) → IsOpen q z → part q z ≡ Err (error.Unclosed (length z + 1))
 unfolding part
 part_open q z open_ = by (raw_len q false 0 z) refl
   where
-    by : (o : Option ℕ) → raw_len q false 0 z ≡ o → part_of q z o ≡ Err (trouble.Unclosed (length z + 1))
+    by : (o : Option ℕ) → raw_len q false 0 z ≡ o → part_of q z o ≡ Err (error.Unclosed (length z + 1))
     by None e = refl
     by (Some n) e = let (raw, text, rest, h) = quoted_found q z 0 n e in absurd (open_ raw text rest h)

@@ -5,9 +5,10 @@ use Rattle.std.specs.List.{list_any, list_all}
 use Rattle.std.proofs.lemmas.Bool.{and_parts}
 use Rattle.std.proofs.lemmas.Bool.Decides.{nat_tests}
 use Rattle.std.proofs.lemmas.List.{append-nil}
-use Rattle.xp_lexer.specs.Bytes.{Text, first, is_sign, is_free}
+use Rattle.xp_base.specs.Operators.{is_sign, is_special_byte}
+use Rattle.xp_lexer.specs.Bytes.{Text, first}
 use Rattle.xp_token.specs.Lexemes.{OperatorOf}
-use Rattle.xp_lexer.specs.Cutting.{operator_len, cut, operator}
+use Rattle.xp_lexer.specs.inner.Cutting.{operator_len, cut, operator}
 use Rattle.xp_lexer.specs.Meaning.{goes_on, spelled}
 use Rattle.xp_lexer.specs.Grammar.{Run, Trims, ends_plain}
 
@@ -22,7 +23,7 @@ run_found (b ∷ z) = by (goes_on b (first z)) refl (run_found z)
     by true e (run, rest, r) = (b ∷ run, rest, Run.goes b z run rest e r)
     by false e r = ([], b ∷ z, Run.stops (b ∷ z) e)
 
-run_text : (z run rest : Text) → Run z run rest → z ≡ run ++ rest
+pub run_text : (z run rest : Text) → Run z run rest → z ≡ run ++ rest
 run_text z run rest (Run.stops r e) = refl
 run_text z run rest (Run.goes b y w r e more) = ap (λ t. b ∷ t) (run_text y w r more)
 
@@ -41,11 +42,11 @@ or_same false true c m n k e = e
 or_same false false true m n k e = e
 or_same false false false m n k e = refl
 
-len_is : (len kept : ℕ) (free : Bool) (z run rest : Text) → Run z run rest → operator_len len kept free z ≡ cond (free || list_any is_free run) (len + length run) (kept_after len kept run)
+len_is : (len kept : ℕ) (free : Bool) (z run rest : Text) → Run z run rest → operator_len len kept free z ≡ cond (free || list_any is_special_byte run) (len + length run) (kept_after len kept run)
 len_is len kept free z run rest (Run.stops [] e) = by_free free len kept
 len_is len kept free z run rest (Run.stops (b ∷ r) e) = rw e (by_free free len kept)
 len_is len kept free z run rest (Run.goes b y w r e more) =
-    rw e (len_is (len + 1) (cond (is_sign b) kept (len + 1)) (free || is_free b) y w r more ∙ or_same free (is_free b) (list_any is_free w) _ _ _ (omega arith))
+    rw e (len_is (len + 1) (cond (is_sign b) kept (len + 1)) (free || is_special_byte b) y w r more ∙ or_same free (is_special_byte b) (list_any is_special_byte w) _ _ _ (omega arith))
 
 kept_signs : (len kept : ℕ) (signs : Text) → list_all is_sign signs ≡ true → kept_after len kept signs ≡ kept
 kept_signs len kept [] h = refl
@@ -77,11 +78,11 @@ kept_operator (b ∷ c ∷ xs) h =
     let e : (length (b ∷ c ∷ xs) == 1) ≡ false = grind (arith, nat_tests) in
     kept_plain 0 1 (b ∷ c ∷ xs) (rw e at h) ∙ omega arith
 
-trims_len : (run op signs : Text) → Trims run op signs → cond (list_any is_free run) (0 + length run) (kept_after 0 1 run) ≡ length op
+trims_len : (run op signs : Text) → Trims run op signs → cond (list_any is_special_byte run) (0 + length run) (kept_after 0 1 run) ≡ length op
 trims_len run op signs (Trims.whole w free) = rw free (omega arith)
 trims_len run op signs (Trims.cut x s none all kept) = rw none (kept_append 0 1 x s ∙ kept_signs (0 + length x) (kept_after 0 1 x) s all ∙ kept_operator x kept)
 
-trims_text : (run op signs : Text) → Trims run op signs → run ≡ op ++ signs
+pub trims_text : (run op signs : Text) → Trims run op signs → run ≡ op ++ signs
 trims_text run op signs (Trims.whole w free) = sym (append-nil w)
 trims_text run op signs (Trims.cut x s none all kept) = refl
 
@@ -127,11 +128,11 @@ splits b (c ∷ run) = by (splits c run)
         (b ∷ d ∷ f ∷ op, signs, ap (λ t. b ∷ t) e, all, or_second (length (b ∷ d ∷ f ∷ op) == 1) (ends_plain (d ∷ f ∷ op)) h)
 
 pub trims_found : (b : ℕ) (run : Text) → HasTrims (b ∷ run)
-trims_found b run = by (list_any is_free (b ∷ run)) refl (splits b run)
+trims_found b run = by (list_any is_special_byte (b ∷ run)) refl (splits b run)
   where
-    by : (v : Bool) → list_any is_free (b ∷ run) ≡ v → Split (b ∷ run) → HasTrims (b ∷ run)
+    by : (v : Bool) → list_any is_special_byte (b ∷ run) ≡ v → Split (b ∷ run) → HasTrims (b ∷ run)
     by true e s = (b ∷ run, [], Trims.whole (b ∷ run) e)
-    by false e (op, signs, f, all, k) = (op, signs, subst (λ x. Trims x op signs) (sym f) (Trims.cut op signs (subst (λ x. list_any is_free x ≡ false) f e) all k))
+    by false e (op, signs, f, all, k) = (op, signs, subst (λ x. Trims x op signs) (sym f) (Trims.cut op signs (subst (λ x. list_any is_special_byte x ≡ false) f e) all k))
 
 run_suffix : (z run rest : Text) → Run z run rest → (op signs : Text) → run ≡ op ++ signs → Run (signs ++ rest) signs rest
 run_suffix z run rest (Run.stops r e) [] [] f = Run.stops r e
@@ -141,11 +142,11 @@ run_suffix z run rest (Run.goes b y w r e more) [] signs f =
     subst (λ t. Run (t ++ r) t r) f (Run.goes b (w ++ r) w r (subst (λ t. goes_on b (first t) ≡ true) (run_text y w r more) e) (subst (λ t. Run t w r) (run_text y w r more) more))
 run_suffix z run rest (Run.goes b y w r e more) (x ∷ op) signs f = let g : w ≡ op ++ signs = cc in run_suffix y w r more op signs g
 
-any_back : (xs ys : Text) → list_any is_free (xs ++ ys) ≡ false → list_any is_free ys ≡ false
+any_back : (xs ys : Text) → list_any is_special_byte (xs ++ ys) ≡ false → list_any is_special_byte ys ≡ false
 any_back [] ys h = h
-any_back (x ∷ xs) ys h = by (is_free x) (any_back xs ys) h
+any_back (x ∷ xs) ys h = by (is_special_byte x) (any_back xs ys) h
   where
-    by : (v : Bool) → (list_any is_free (xs ++ ys) ≡ false → list_any is_free ys ≡ false) → (v || list_any is_free (xs ++ ys)) ≡ false → list_any is_free ys ≡ false
+    by : (v : Bool) → (list_any is_special_byte (xs ++ ys) ≡ false → list_any is_special_byte ys ≡ false) → (v || list_any is_special_byte (xs ++ ys)) ≡ false → list_any is_special_byte ys ≡ false
     by true back h = absurd cc
     by false back h = back h
 
@@ -155,7 +156,7 @@ operator_alone z run op signs rest r t =
     let s = run_suffix z run rest r op signs (trims_text run op signs t) in
     len_is 0 1 false (signs ++ rest) signs rest s ∙ by run op signs t
   where
-    by : (run op signs : Text) → Trims run op signs → cond (false || list_any is_free signs) (0 + length signs) (kept_after 0 1 signs) ≡ 1
+    by : (run op signs : Text) → Trims run op signs → cond (false || list_any is_special_byte signs) (0 + length signs) (kept_after 0 1 signs) ≡ 1
     by run op signs (Trims.whole w free) = refl
     by run op signs (Trims.cut x s none all kept) = rw (any_back x s none) (kept_signs 0 1 s all)
 

@@ -5,14 +5,15 @@ use Rattle.std.specs.Char.{digit_value, is_digit}
 use Rattle.std.proofs.lemmas.Bool.{and_parts}
 use Rattle.std.proofs.lemmas.Bool.Decides.{nat_tests}
 use Rattle.std.proofs.lemmas.List.{length-drop}
-use Rattle.xp_lexer.specs.declared.trouble.Trouble.TheVariants as trouble
+use Rattle.xp_lexer.specs.declared.scan_error.ScanError.TheVariants as error
 use Rattle.xp_token.specs.declared.token.Mark.{Mark}
 use Rattle.xp_token.specs.declared.token.Mark.TheVariants as mark
 use Rattle.xp_lexer.specs.declared.numbers.Exponent.TheVariants as shift
-use Rattle.xp_lexer.specs.Bytes.{Text, first, is_space, is_decimal, begins_name, is_name_byte, is_operator_byte, is_sign, is_free, opens_comment}
+use Rattle.xp_base.specs.Operators.{is_operator_byte, is_sign, is_special_byte}
+use Rattle.xp_lexer.specs.Bytes.{Text, first, is_space, is_decimal, begins_name, is_name_byte, opens_comment}
 use Rattle.xp_token.specs.Ended.{is_end}
 use Rattle.xp_token.specs.Lexemes.{Lexeme, QuotedName, Constant, MarkOf, EndOf}
-use Rattle.xp_lexer.specs.Cutting.{◌>>=◌, line_rest, comment_rest, behind_comment, comment, digits, extended, decimals, fraction, sign, exponent_digits, exponent_at, decimal, number, names_base, name_len, name, cut, operator, operator_len, part, more_parts, then_more, continued, all_parts, string, quoted_name, word, one_byte, mark_at, token, piece}
+use Rattle.xp_lexer.specs.inner.Cutting.{◌>>=◌, line_rest, comment_rest, behind_comment, comment, digits, extended, decimals, fraction, sign, exponent_digits, exponent_at, decimal, number, names_base, name_len, name, cut, operator, operator_len, part, more_parts, then_more, continued, all_parts, string, quoted_name, word, one_byte, mark_at, token, scan_next}
 use Rattle.xp_lexer.specs.Meaning.{base_of, number_of, goes_on, is_prefix, begins_number}
 use Rattle.xp_lexer.proofs.Parts.{bind_ok, part_shorter, continued_within}
 
@@ -148,7 +149,7 @@ word_shorter : (z : Text) (p : Lexeme × Text) → begins_name (first z) ≡ tru
 unfolding word name
 word_shorter z p h e = by (is_prefix z) e
   where
-    by : (v : Bool) → cond v (Err (trouble.BadByte (length z))) (name z) ≡ Ok p → length p.1 < length z
+    by : (v : Bool) → cond v (Err (error.BadByte (length z))) (name z) ≡ Ok p → length p.1 < length z
     by true e = absurd cc
     by false e =
         let q : drop (name_len z) z ≡ p.1 = cc in
@@ -158,10 +159,10 @@ word_shorter z p h e = by (is_prefix z) e
 operator_some : (z : Text) (len kept : ℕ) (free : Bool) → 1 ≤ kept → (free ≡ true → 1 ≤ len) → 1 ≤ operator_len len kept free z
 operator_some [] len kept true h k = k refl
 operator_some [] len kept false h k = h
-operator_some (b ∷ z) len kept free h k = by (goes_on b (first z)) (is_sign b) free k (operator_some z (len + 1) kept (free || is_free b) h (λ e. omega arith)) (operator_some z (len + 1) (len + 1) (free || is_free b) (omega arith) (λ e. omega arith))
+operator_some (b ∷ z) len kept free h k = by (goes_on b (first z)) (is_sign b) free k (operator_some z (len + 1) kept (free || is_special_byte b) h (λ e. omega arith)) (operator_some z (len + 1) (len + 1) (free || is_special_byte b) (omega arith) (λ e. omega arith))
   where
-    by : (v s f : Bool) → (f ≡ true → 1 ≤ len) → 1 ≤ operator_len (len + 1) kept (free || is_free b) z → 1 ≤ operator_len (len + 1) (len + 1) (free || is_free b) z
-        → 1 ≤ cond v (operator_len (len + 1) (cond s kept (len + 1)) (free || is_free b) z) (cond f len kept)
+    by : (v s f : Bool) → (f ≡ true → 1 ≤ len) → 1 ≤ operator_len (len + 1) kept (free || is_special_byte b) z → 1 ≤ operator_len (len + 1) (len + 1) (free || is_special_byte b) z
+        → 1 ≤ cond v (operator_len (len + 1) (cond s kept (len + 1)) (free || is_special_byte b) z) (cond f len kept)
     by true true f k a c = a
     by true false f k a c = c
     by false s true k a c = k refl
@@ -184,7 +185,7 @@ unfolding mark_at
 mark_shorter z p some e = by (first z == 40) (first z == 41) (first z == 91) (first z == 93) (first z == 44) (first z == 46) (first z == 58 && slice_index z 1 == 58) e
   where
     by : (t u v w x y s : Bool)
-        → cond t (one_byte mark.OpenParen z) (cond u (one_byte mark.CloseParen z) (cond v (one_byte mark.OpenBracket z) (cond w (one_byte mark.CloseBracket z) (cond x (one_byte mark.Comma z) (cond y (one_byte mark.Point z) (cond s (Ok (MarkOf mark.DoubleColon, drop 2 z)) (Err (trouble.BadByte (length z)))))))))
+        → cond t (one_byte mark.OpenParen z) (cond u (one_byte mark.CloseParen z) (cond v (one_byte mark.OpenBracket z) (cond w (one_byte mark.CloseBracket z) (cond x (one_byte mark.Comma z) (cond y (one_byte mark.Point z) (cond s (Ok (MarkOf mark.DoubleColon, drop 2 z)) (Err (error.BadByte (length z)))))))))
         ≡ Ok p → length p.1 < length z
     by true u v w x y s e = one_shorter _ z p some e
     by false true v w x y s e = one_shorter _ z p some e
@@ -221,10 +222,10 @@ string_shorter z p e =
 quoted_shorter : (z : Text) (p : Lexeme × Text) → quoted_name z ≡ Ok p → length p.1 < length z
 unfolding quoted_name
 quoted_shorter z p e =
-    let (x, f, g) = bind_ok (part 34 z) (λ x. cond (length x.0 == 0) (Err (trouble.BadByte (length z + 1))) (Ok (QuotedName x.0, x.1))) p e in
+    let (x, f, g) = bind_ok (part 34 z) (λ x. cond (length x.0 == 0) (Err (error.BadByte (length z + 1))) (Ok (QuotedName x.0, x.1))) p e in
     by x f (length x.0 == 0) g
   where
-    by : (x : Text × Text) → part 34 z ≡ Ok x → (v : Bool) → cond v (Err (trouble.BadByte (length z + 1))) (Ok (QuotedName x.0, x.1)) ≡ Ok p → length p.1 < length z
+    by : (x : Text × Text) → part 34 z ≡ Ok x → (v : Bool) → cond v (Err (error.BadByte (length z + 1))) (Ok (QuotedName x.0, x.1)) ≡ Ok p → length p.1 < length z
     by x f true g = absurd cc
     by x f false g = let q : x.1 ≡ p.1 = cc in omega (arith, ap length q, part_shorter 34 z x f)
 
@@ -246,8 +247,8 @@ abbrev pub goes_on_behind : Option Lexeme → Bool
 goes_on_behind None = true
 goes_on_behind (Some k) = not (is_end k)
 
-pub piece_shorter : (alone : Bool) (z : Text) (p : Option Lexeme × Text) → piece alone z ≡ Ok p → (length p.1 ≤ length z) × (goes_on_behind p.0 ≡ true → length p.1 < length z)
-unfolding piece
+pub piece_shorter : (alone : Bool) (z : Text) (p : Option Lexeme × Text) → scan_next alone z ≡ Ok p → (length p.1 ≤ length z) × (goes_on_behind p.0 ≡ true → length p.1 < length z)
+unfolding scan_next
 piece_shorter alone [] p e = let q : [] ≡ p.1 = cc in (omega (arith, ap length q), λ g. absurd (by p.0 (cc) g))
   where
     by : (o : Option Lexeme) → Some EndOf ≡ o → goes_on_behind o ≡ true → ⊥

@@ -3,12 +3,13 @@ use Rattle.std.proofs.Common.{◌≡◌, ℕ, ◌^◌, ◌<◌, ◌≤◌, Bool,
 use Rattle.std.specs.Prelude.{slice_index}
 use Rattle.std.proofs.lemmas.Bool.{and_parts}
 use Rattle.std.proofs.lemmas.Bool.Decides.{nat_tests}
-use Rattle.xp_lexer.specs.declared.trouble.Trouble.{Trouble}
-use Rattle.xp_lexer.specs.declared.trouble.Trouble.TheVariants as trouble
+use Rattle.xp_lexer.specs.declared.scan_error.ScanError.{ScanError}
+use Rattle.xp_lexer.specs.declared.scan_error.ScanError.TheVariants as error
 use Rattle.xp_token.specs.declared.token.Mark.TheVariants as mark
-use Rattle.xp_lexer.specs.Bytes.{Text, first, is_space, is_decimal, begins_name, is_name_byte, is_operator_byte, opens_comment}
+use Rattle.xp_base.specs.Operators.{is_operator_byte}
+use Rattle.xp_lexer.specs.Bytes.{Text, first, is_space, is_decimal, begins_name, is_name_byte, opens_comment}
 use Rattle.xp_token.specs.Lexemes.{Lexeme, QuotedName, Constant, OperatorOf, MarkOf, EndOf}
-use Rattle.xp_lexer.specs.Cutting.{◌>>=◌, comment, comment_rest, line_rest, number, name, word, quoted_name, mark_at, token, piece}
+use Rattle.xp_lexer.specs.inner.Cutting.{◌>>=◌, comment, comment_rest, line_rest, number, name, word, quoted_name, mark_at, token, scan_next}
 use Rattle.xp_lexer.specs.Meaning.{number_of, is_prefix, goes_on, spelled, begins_number}
 use Rattle.xp_lexer.specs.Grammar.{Comments, Gap, Longest, Quoted, IsClean, Parts, Based, Run, Trims, folded, Reads, Stops, Bad}
 use Rattle.xp_lexer.proofs.Gaps.{line_is, line_found, comments_are, comments_found}
@@ -21,22 +22,22 @@ use Rattle.xp_lexer.proofs.Runs.{HasRun, run_found, run_some, trims_found, opera
 nonempty : (b : ℕ) (z : Text) → (length (b ∷ z) == 0) ≡ false
 nonempty b z = grind (arith, nat_tests)
 
-pub gap_is : (z rest : Text) → Gap z rest → piece false z ≡ Ok (None, rest)
-unfolding piece comment
+pub gap_is : (z rest : Text) → Gap z rest → scan_next false z ≡ Ok (None, rest)
+unfolding scan_next comment
 gap_is z rest (Gap.space b y sp) = rw (nonempty b y, sp) refl
 gap_is z rest (Gap.line y r l) = rw (nonempty 45 (45 ∷ y), line_is y r l) refl
 gap_is z rest (Gap.comment y r c) =
     let e : comment_rest 1 false y ≡ Some r = comments_are 1 y r c in
     rw (nonempty 47 (42 ∷ y), e) refl
 
-pub stop_is : (z rest : Text) → Stops z rest → piece false z ≡ Ok (Some EndOf, rest)
-unfolding piece
+pub stop_is : (z rest : Text) → Stops z rest → scan_next false z ≡ Ok (Some EndOf, rest)
+unfolding scan_next
 stop_is z rest Stops.at_end = refl
 stop_is z rest (Stops.semicolon y) = rw (nonempty 59 y) refl
 
 -- a piece that is a token
-piece_token : (b : ℕ) (z : Text) → is_space b ≡ false → opens_comment b (first z) ≡ false → (b == 59) ≡ false → piece false (b ∷ z) ≡ (token false (b ∷ z) >>= (λ p. Ok (Some p.0, p.1)))
-unfolding piece
+piece_token : (b : ℕ) (z : Text) → is_space b ≡ false → opens_comment b (first z) ≡ false → (b == 59) ≡ false → scan_next false (b ∷ z) ≡ (token false (b ∷ z) >>= (λ p. Ok (Some p.0, p.1)))
+unfolding scan_next
 piece_token b z sp op sc = rw (nonempty b z, sp, op, sc) refl
 
 decimal_range : (b : ℕ) → is_decimal b ≡ true → (48 ≤ b) × (b ≤ 57)
@@ -136,28 +137,28 @@ turned : (v : Bool) → not v ≡ true → v ≡ false
 turned true h = absurd cc
 turned false h = refl
 
-string_piece : (z text rest : Text) → Parts z text rest → piece false (39 ∷ z) ≡ Ok (Some (Constant text), rest)
+string_piece : (z text rest : Text) → Parts z text rest → scan_next false (39 ∷ z) ≡ Ok (Some (Constant text), rest)
 unfolding token
 string_piece z text rest h = piece_token 39 z refl refl refl ∙ rw (string_is z text rest h) refl
 
-quoted_piece : (z raw text rest : Text) → Quoted 34 z raw text rest → IsClean raw → (length text == 0) ≡ false → piece false (34 ∷ z) ≡ Ok (Some (QuotedName text), rest)
+quoted_piece : (z raw text rest : Text) → Quoted 34 z raw text rest → IsClean raw → (length text == 0) ≡ false → scan_next false (34 ∷ z) ≡ Ok (Some (QuotedName text), rest)
 unfolding token quoted_name
 quoted_piece z raw text rest q clean some = piece_token 34 z refl refl refl ∙ rw (part_is 34 z raw text rest q clean, some) refl
 
-based_piece : (z : Text) (w : ℕ) (rest : Text) → Based z w rest → piece false z ≡ Ok (Some (number_of w 0 true), rest)
+based_piece : (z : Text) (w : ℕ) (rest : Text) → Based z w rest → scan_next false z ≡ Ok (Some (number_of w 0 true), rest)
 unfolding token
 based_piece z w rest (Based.based letter a c y r other d some) =
     piece_token 48 (letter ∷ y) refl refl refl ∙ rw (based_is (48 ∷ letter ∷ y) a r (Based.based letter a c y r other d some)) refl
 
 -- a number
-number_piece : (z : Text) (k : Lexeme) (rest : Text) → begins_number z ≡ true → number z ≡ (k, rest) → piece false z ≡ Ok (Some k, rest)
+number_piece : (z : Text) (k : Lexeme) (rest : Text) → begins_number z ≡ true → number z ≡ (k, rest) → scan_next false z ≡ Ok (Some k, rest)
 unfolding token
 number_piece [] k rest h e = absurd cc
 number_piece (b ∷ z) k rest h e =
     let o = number_first b z h in
     piece_token b z o.space (o.comment (first z)) o.semicolon ∙ rw (o.apostrophe, o.quote, h, e) refl
 
-name_piece : (z front rest : Text) → begins_name (first z) ≡ true → is_prefix z ≡ false → Longest is_name_byte z front rest → piece false z ≡ Ok (Some (folded front), rest)
+name_piece : (z front rest : Text) → begins_name (first z) ≡ true → is_prefix z ≡ false → Longest is_name_byte z front rest → scan_next false z ≡ Ok (Some (folded front), rest)
 unfolding token word name
 name_piece [] front rest h p l = absurd cc
 name_piece (b ∷ z) front rest h p l =
@@ -165,7 +166,7 @@ name_piece (b ∷ z) front rest h p l =
     let e = longest_is is_name_byte (b ∷ z) front rest l in
     piece_token b z o.space (o.comment (first z)) o.semicolon ∙ rw (o.apostrophe, o.quote, name_no_number b z h, h, p) (rw (e.0, e.1) refl)
 
-operator_piece : (z run op signs rest : Text) → goes_on (first z) (slice_index z 1) ≡ true → Run z run rest → Trims run op signs → piece false z ≡ Ok (Some (OperatorOf (spelled op)), signs ++ rest)
+operator_piece : (z run op signs rest : Text) → goes_on (first z) (slice_index z 1) ≡ true → Run z run rest → Trims run op signs → scan_next false z ≡ Ok (Some (OperatorOf (spelled op)), signs ++ rest)
 unfolding token
 operator_piece [] run op signs rest h r t = absurd cc
 operator_piece (b ∷ z) run op signs rest h r t =
@@ -174,7 +175,7 @@ operator_piece (b ∷ z) run op signs rest h r t =
     let e : is_operator_byte b ≡ true = p.0 in
     piece_token b z o.0 (turned (opens_comment b (first z)) p.1) o.1 ∙ rw (o.2, o.3, operator_no_number b z e, operator_no_name b e, e, operator_is (b ∷ z) run op signs rest r t) refl
 
-pub reads_are : (z : Text) (k : Lexeme) (rest : Text) → length z < 2 ^ 32 → Reads z k rest → piece false z ≡ Ok (Some k, rest)
+pub reads_are : (z : Text) (k : Lexeme) (rest : Text) → length z < 2 ^ 32 → Reads z k rest → scan_next false z ≡ Ok (Some k, rest)
 unfolding token mark_at
 reads_are z k rest fits (Reads.string y text r h) = string_piece y text r h
 reads_are z k rest fits (Reads.quoted y raw text r q clean some) = quoted_piece y raw text r q clean some
@@ -194,7 +195,7 @@ abbrev pub HasToken : Text → Type 0
 HasToken z = (k : Lexeme) × (rest : Text) × Reads z k rest
 
 -- no mark, or a mark
-mark_cases : (b : ℕ) (z : Text) → begins_number (b ∷ z) ≡ false → HasToken (b ∷ z) ⊎ (mark_at (b ∷ z) ≡ Err (trouble.BadByte (length (b ∷ z))))
+mark_cases : (b : ℕ) (z : Text) → begins_number (b ∷ z) ≡ false → HasToken (b ∷ z) ⊎ (mark_at (b ∷ z) ≡ Err (error.BadByte (length (b ∷ z))))
 unfolding mark_at
 mark_cases b z num = by (b == 40) refl (b == 41) refl (b == 91) refl (b == 93) refl (b == 44) refl (b == 46) refl
   where
@@ -208,7 +209,7 @@ mark_cases b z num = by (b == 40) refl (b == 41) refl (b == 91) refl (b == 93) r
         rest_false true w h = absurd cc
         rest_false false w h = h
 
-    by : (t : Bool) → (b == 40) ≡ t → (u : Bool) → (b == 41) ≡ u → (v : Bool) → (b == 91) ≡ v → (w : Bool) → (b == 93) ≡ w → (x : Bool) → (b == 44) ≡ x → (y : Bool) → (b == 46) ≡ y → HasToken (b ∷ z) ⊎ (mark_at (b ∷ z) ≡ Err (trouble.BadByte (length (b ∷ z))))
+    by : (t : Bool) → (b == 40) ≡ t → (u : Bool) → (b == 41) ≡ u → (v : Bool) → (b == 91) ≡ v → (w : Bool) → (b == 93) ≡ w → (x : Bool) → (b == 44) ≡ x → (y : Bool) → (b == 46) ≡ y → HasToken (b ∷ z) ⊎ (mark_at (b ∷ z) ≡ Err (error.BadByte (length (b ∷ z))))
     by true e u f v g w h x i y j = inl (at 40 e (_, z, Reads.open_paren z))
     by false e true f v g w h x i y j = inl (at 41 f (_, z, Reads.close_paren z))
     by false e false f true g w h x i y j = inl (at 91 g (_, z, Reads.open_bracket z))
@@ -224,17 +225,17 @@ mark_cases b z num = by (b == 40) refl (b == 41) refl (b == 91) refl (b == 93) r
             let q : 58 ≡ c = grind (arith, nat_tests) in
             subst (λ x. HasToken (x ∷ c ∷ y)) p (subst (λ x. HasToken (58 ∷ x ∷ y)) q (MarkOf mark.DoubleColon, y, Reads.double_colon y))
 
-        last : (v : Bool) → (b == 58 && first z == 58) ≡ v → HasToken (b ∷ z) ⊎ (mark_at (b ∷ z) ≡ Err (trouble.BadByte (length (b ∷ z))))
+        last : (v : Bool) → (b == 58 && first z == 58) ≡ v → HasToken (b ∷ z) ⊎ (mark_at (b ∷ z) ≡ Err (error.BadByte (length (b ∷ z))))
         last true k = let p = and_parts (b == 58) (first z == 58) k in inl (colon z p.0 p.1)
         last false k = inr (rw (e, f, g, h, i, j, k) refl)
 
 -- no token, or a token
 pub token_cases : (b : ℕ) (z : Text) → is_space b ≡ false → opens_comment b (first z) ≡ false → (b == 59) ≡ false → (b == 39) ≡ false → (b == 34) ≡ false
-    → HasToken (b ∷ z) ⊎ (piece false (b ∷ z) ≡ Err (trouble.BadByte (length (b ∷ z))))
+    → HasToken (b ∷ z) ⊎ (scan_next false (b ∷ z) ≡ Err (error.BadByte (length (b ∷ z))))
 unfolding token word
 token_cases b z sp op sc ap qu = by (begins_number (b ∷ z)) refl (begins_name b) refl (is_operator_byte b) refl (mark_cases b z)
   where
-    named_so : begins_number (b ∷ z) ≡ false → begins_name b ≡ true → (v : Bool) → is_prefix (b ∷ z) ≡ v → HasToken (b ∷ z) ⊎ (piece false (b ∷ z) ≡ Err (trouble.BadByte (length (b ∷ z))))
+    named_so : begins_number (b ∷ z) ≡ false → begins_name b ≡ true → (v : Bool) → is_prefix (b ∷ z) ≡ v → HasToken (b ∷ z) ⊎ (scan_next false (b ∷ z) ≡ Err (error.BadByte (length (b ∷ z))))
     named_so e f true g = inr (piece_token b z sp op sc ∙ rw (ap, qu, e, f, g) refl)
     named_so e f false g = inl (_, _, Reads.name (b ∷ z) _ _ f g (longest_found is_name_byte (b ∷ z)))
 
@@ -244,13 +245,13 @@ token_cases b z sp op sc ap qu = by (begins_number (b ∷ z)) refl (begins_name 
         let (o, signs, t) = trims_found c w in
         (OperatorOf (spelled o), signs ++ rest, Reads.operator (b ∷ z) (c ∷ w) o signs rest g (subst (λ x. Run (b ∷ z) x rest) e r) t)
 
-    marked : begins_number (b ∷ z) ≡ false → begins_name b ≡ false → is_operator_byte b ≡ false → HasToken (b ∷ z) ⊎ (mark_at (b ∷ z) ≡ Err (trouble.BadByte (length (b ∷ z)))) → HasToken (b ∷ z) ⊎ (piece false (b ∷ z) ≡ Err (trouble.BadByte (length (b ∷ z))))
+    marked : begins_number (b ∷ z) ≡ false → begins_name b ≡ false → is_operator_byte b ≡ false → HasToken (b ∷ z) ⊎ (mark_at (b ∷ z) ≡ Err (error.BadByte (length (b ∷ z)))) → HasToken (b ∷ z) ⊎ (scan_next false (b ∷ z) ≡ Err (error.BadByte (length (b ∷ z))))
     marked e f g (inl h) = inl h
     marked e f g (inr h) = inr (piece_token b z sp op sc ∙ rw (ap, qu, e, f, g, h) refl)
 
     by : (t : Bool) → begins_number (b ∷ z) ≡ t → (u : Bool) → begins_name b ≡ u → (v : Bool) → is_operator_byte b ≡ v
-        → (begins_number (b ∷ z) ≡ false → HasToken (b ∷ z) ⊎ (mark_at (b ∷ z) ≡ Err (trouble.BadByte (length (b ∷ z)))))
-        → HasToken (b ∷ z) ⊎ (piece false (b ∷ z) ≡ Err (trouble.BadByte (length (b ∷ z))))
+        → (begins_number (b ∷ z) ≡ false → HasToken (b ∷ z) ⊎ (mark_at (b ∷ z) ≡ Err (error.BadByte (length (b ∷ z)))))
+        → HasToken (b ∷ z) ⊎ (scan_next false (b ∷ z) ≡ Err (error.BadByte (length (b ∷ z))))
     by true e u f v g m = inl (number_found (b ∷ z) e)
     by false e true f v g m = named_so e f (is_prefix (b ∷ z)) refl
     by false e false f true g m = inl (run_so (rw (g, op) refl) (run_found (b ∷ z)))
@@ -265,17 +266,17 @@ quotes_apart b h = by (b == 39) refl h
 
 nothing_is : (b : ℕ) (z : Text) → (b == 39 || b == 34) ≡ false → opens_comment b (first z) ≡ false
     → ((rest : Text) → Gap (b ∷ z) rest → ⊥) → ((k : Lexeme) (rest : Text) → Reads (b ∷ z) k rest → ⊥) → ((rest : Text) → Stops (b ∷ z) rest → ⊥)
-    → piece false (b ∷ z) ≡ Err (trouble.BadByte (length (b ∷ z)))
+    → scan_next false (b ∷ z) ≡ Err (error.BadByte (length (b ∷ z)))
 nothing_is b z quotes op gap reads stops = by (is_space b) refl (b == 59) refl
   where
     apart : ((b == 39) ≡ false) × ((b == 34) ≡ false)
     apart = quotes_apart b quotes
 
-    out : HasToken (b ∷ z) ⊎ (piece false (b ∷ z) ≡ Err (trouble.BadByte (length (b ∷ z)))) → piece false (b ∷ z) ≡ Err (trouble.BadByte (length (b ∷ z)))
+    out : HasToken (b ∷ z) ⊎ (scan_next false (b ∷ z) ≡ Err (error.BadByte (length (b ∷ z)))) → scan_next false (b ∷ z) ≡ Err (error.BadByte (length (b ∷ z)))
     out (inl (k, rest, r)) = absurd (reads k rest r)
     out (inr e) = e
 
-    by : (v : Bool) → is_space b ≡ v → (w : Bool) → (b == 59) ≡ w → piece false (b ∷ z) ≡ Err (trouble.BadByte (length (b ∷ z)))
+    by : (v : Bool) → is_space b ≡ v → (w : Bool) → (b == 59) ≡ w → scan_next false (b ∷ z) ≡ Err (error.BadByte (length (b ∷ z)))
     by true e w f = absurd (gap z (Gap.space b z e))
     by false e true f = let p : 59 ≡ b = grind (arith, nat_tests) in absurd (stops z (subst (λ x. Stops (x ∷ z) z) p (Stops.semicolon z)))
     by false e false f = out (token_cases b z e op f apart.0 apart.1)
@@ -287,8 +288,8 @@ open_comment z none = by (comment_rest 1 false z) refl
     by None e = refl
     by (Some rest) e = absurd (none rest (comments_found 1 z rest e))
 
-pub bad_is : (z : Text) (t : Trouble) → Bad z t → piece false z ≡ Err t
-unfolding piece token quoted_name comment
+pub bad_is : (z : Text) (t : ScanError) → Bad z t → scan_next false z ≡ Err t
+unfolding scan_next token quoted_name comment
 bad_is z t (Bad.string y u h) = piece_token 39 y refl refl refl ∙ rw (string_bad y u h) refl
 bad_is z t (Bad.unclosed_name y o) = piece_token 34 y refl refl refl ∙ rw (part_open 34 y o) refl
 bad_is z t (Bad.spoilt_name y raw text rest q less) = piece_token 34 y refl refl refl ∙ rw (part_spoilt 34 y raw text rest q less) refl
@@ -301,7 +302,7 @@ pub data PieceIs (z : Text) : Type 0 where
   white : (rest : Text) → Gap z rest → PieceIs z
   lexeme : (k : Lexeme) (rest : Text) → Reads z k rest → PieceIs z
   end : (rest : Text) → Stops z rest → PieceIs z
-  fault : (t : Trouble) → Bad z t → PieceIs z
+  fault : (t : ScanError) → Bad z t → PieceIs z
 
 quoted_name_cases : (z : Text) → PieceIs (34 ∷ z)
 quoted_name_cases z = elim (quoted_cases 34 z) [
@@ -348,7 +349,7 @@ pub piece_cases : (z : Text) → length z < 2 ^ 32 → PieceIs z
 piece_cases [] fits = PieceIs.end [] Stops.at_end
 piece_cases (b ∷ z) fits = by (is_space b) refl (opens_comment b (first z)) refl (b == 59) refl (b == 39) refl (b == 34) refl
   where
-    left : (sp : is_space b ≡ false) → opens_comment b (first z) ≡ false → (b == 39) ≡ false → (b == 34) ≡ false → HasToken (b ∷ z) ⊎ (piece false (b ∷ z) ≡ Err (trouble.BadByte (length (b ∷ z)))) → PieceIs (b ∷ z)
+    left : (sp : is_space b ≡ false) → opens_comment b (first z) ≡ false → (b == 39) ≡ false → (b == 34) ≡ false → HasToken (b ∷ z) ⊎ (scan_next false (b ∷ z) ≡ Err (error.BadByte (length (b ∷ z)))) → PieceIs (b ∷ z)
     left sp op ap qu (inl (k, rest, r)) = PieceIs.lexeme k rest r
     left sp op ap qu (inr e) = PieceIs.fault _ (Bad.nothing b z (rw (ap, qu) refl) op
         (λ rest g. let f = gap_is (b ∷ z) rest g in absurd cc) (λ k rest r. let f = reads_are (b ∷ z) k rest fits r in absurd cc) (λ rest s. let f = stop_is (b ∷ z) rest s in absurd cc))

@@ -25,18 +25,6 @@ begins_name b = is_ascii_alphabetic b || b == 95
 abbrev pub is_name_byte : ℕ → Bool
 is_name_byte b = is_ascii_alphanumeric b || b == 95
 
--- + and -
-abbrev pub is_sign : ℕ → Bool
-is_sign b = b == 43 || b == 45
-
--- ~ ! @ # % ^ & | ` ?, with one of which an operator may end in a sign
-abbrev pub is_free : ℕ → Bool
-is_free b = b == 126 || b == 33 || b == 64 || b == 35 || b == 37 || b == 94 || b == 38 || b == 124 || b == 96 || b == 63
-
--- these and * / < > =
-abbrev pub is_operator_byte : ℕ → Bool
-is_operator_byte b = is_sign b || is_free b || b == 42 || b == 47 || b == 60 || b == 62 || b == 61
-
 -- -- and /*
 abbrev pub opens_comment : ℕ → ℕ → Bool
 opens_comment b next = (b == 45 && next == 45) || (b == 47 && next == 42)

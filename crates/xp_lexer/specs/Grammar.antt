@@ -10,12 +10,13 @@ use Rattle.xp_token.specs.declared.token.Mark.TheVariants as mark
 use Rattle.xp_lexer.specs.declared.lexed.Lexed.{Lexed}
 use Rattle.xp_lexer.specs.declared.lexed.LexFault.{LexFault}
 use Rattle.xp_lexer.specs.declared.lexed.LexFault.TheVariants as fault
-use Rattle.xp_lexer.specs.declared.trouble.Trouble.{Trouble}
-use Rattle.xp_lexer.specs.declared.trouble.Trouble.TheVariants as trouble
-use Rattle.xp_lexer.specs.Bytes.{Text, first, is_space, is_decimal, begins_name, is_name_byte, is_sign, is_free, opens_comment}
+use Rattle.xp_lexer.specs.declared.scan_error.ScanError.{ScanError}
+use Rattle.xp_lexer.specs.declared.scan_error.ScanError.TheVariants as error
+use Rattle.xp_base.specs.Operators.{is_sign, is_special_byte}
+use Rattle.xp_lexer.specs.Bytes.{Text, first, is_space, is_decimal, begins_name, is_name_byte, opens_comment}
 use Rattle.xp_token.specs.Lexemes.{Lexeme, Placed, all_placed, QuotedName, Constant, OperatorOf, MarkOf, EndOf}
 use Rattle.xp_token.specs.Words.{word_named}
-use Rattle.xp_lexer.specs.Meaning.{named, number_of, base_of, is_absent, begins_number, goes_on, spelled, clean_len, is_prefix, is_glued, token_at, fault_of, Answer}
+use Rattle.xp_lexer.specs.Meaning.{named, number_of, base_of, is_absent, begins_number, goes_on, spelled, clean_len, is_prefix, is_trailing_junk, token_at, fault_of, Answer}
 
 -- ---- white space and comments
 
@@ -132,8 +133,8 @@ ends_plain (b ∷ c ∷ z) = ends_plain (c ∷ z)
 
 -- how a run is cut: whole where a byte lets it end in a sign, else before its last signs, down to one byte
 pub data Trims : Text → Text → Text → Type 0 where
-  whole : (run : Text) → list_any is_free run ≡ true → Trims run run []
-  cut : (operator signs : Text) → list_any is_free (operator ++ signs) ≡ false → list_all is_sign signs ≡ true → (length operator == 1 || ends_plain operator) ≡ true → Trims (operator ++ signs) operator signs
+  whole : (run : Text) → list_any is_special_byte run ≡ true → Trims run run []
+  cut : (operator signs : Text) → list_any is_special_byte (operator ++ signs) ≡ false → list_all is_sign signs ≡ true → (length operator == 1 || ends_plain operator) ≡ true → Trims (operator ++ signs) operator signs
 
 -- ---- the tokens
 
@@ -169,36 +170,36 @@ pub data Stops : Text → Text → Type 0 where
 pub data Passes (total : ℕ) : Text → List Placed → Text → Type 0 where
   here : (z : Text) → Passes total z [] z
   gap : (z mid rest : Text) (tokens : List Placed) → Gap z mid → Passes total mid tokens rest → Passes total z tokens rest
-  token : (z mid rest : Text) (k : Lexeme) (tokens : List Placed) → Reads z k mid → is_glued k mid ≡ false → Passes total mid tokens rest → Passes total z (token_at total z mid k ∷ tokens) rest
+  token : (z mid rest : Text) (k : Lexeme) (tokens : List Placed) → Reads z k mid → is_trailing_junk k mid ≡ false → Passes total mid tokens rest → Passes total z (token_at total z mid k ∷ tokens) rest
 
 -- ---- what is wrong at a place: the bytes that are left there
 
 -- a string constant, behind its opening quote, of which a part has no end or a byte that is no character's
-pub data BadParts : Text → Trouble → Type 0 where
-  unclosed : (z : Text) → IsOpen 39 z → BadParts z (trouble.Unclosed (length z + 1))
-  spoilt : (z raw text rest : Text) → Quoted 39 z raw text rest → clean_len raw < length raw → BadParts z (trouble.BadByte (length z - clean_len raw))
-  later : (z raw text behind next : Text) (t : Trouble) → Quoted 39 z raw text behind → IsClean raw → Continues false behind next → BadParts next t → BadParts z t
+pub data BadParts : Text → ScanError → Type 0 where
+  unclosed : (z : Text) → IsOpen 39 z → BadParts z (error.Unclosed (length z + 1))
+  spoilt : (z raw text rest : Text) → Quoted 39 z raw text rest → clean_len raw < length raw → BadParts z (error.BadByte (length z - clean_len raw))
+  later : (z raw text behind next : Text) (t : ScanError) → Quoted 39 z raw text behind → IsClean raw → Continues false behind next → BadParts next t → BadParts z t
 
-pub data Bad : Text → Trouble → Type 0 where
-  string : (z : Text) (t : Trouble) → BadParts z t → Bad (39 ∷ z) t
-  unclosed_name : (z : Text) → IsOpen 34 z → Bad (34 ∷ z) (trouble.Unclosed (length z + 1))
-  spoilt_name : (z raw text rest : Text) → Quoted 34 z raw text rest → clean_len raw < length raw → Bad (34 ∷ z) (trouble.BadByte (length z - clean_len raw))
-  empty_name : (z raw text rest : Text) → Quoted 34 z raw text rest → IsClean raw → (length text == 0) ≡ true → Bad (34 ∷ z) (trouble.BadByte (length z + 1))
-  unclosed_comment : (z : Text) → ((rest : Text) → Comments 1 z rest → ⊥) → Bad (47 ∷ 42 ∷ z) (trouble.Unclosed (length (47 ∷ 42 ∷ z)))
+pub data Bad : Text → ScanError → Type 0 where
+  string : (z : Text) (t : ScanError) → BadParts z t → Bad (39 ∷ z) t
+  unclosed_name : (z : Text) → IsOpen 34 z → Bad (34 ∷ z) (error.Unclosed (length z + 1))
+  spoilt_name : (z raw text rest : Text) → Quoted 34 z raw text rest → clean_len raw < length raw → Bad (34 ∷ z) (error.BadByte (length z - clean_len raw))
+  empty_name : (z raw text rest : Text) → Quoted 34 z raw text rest → IsClean raw → (length text == 0) ≡ true → Bad (34 ∷ z) (error.BadByte (length z + 1))
+  unclosed_comment : (z : Text) → ((rest : Text) → Comments 1 z rest → ⊥) → Bad (47 ∷ 42 ∷ z) (error.Unclosed (length (47 ∷ 42 ∷ z)))
   -- no quote and no comment begins, and nothing else
   nothing : (b : ℕ) (z : Text) → (b == 39 || b == 34) ≡ false → opens_comment b (first z) ≡ false
-      → ((rest : Text) → Gap (b ∷ z) rest → ⊥) → ((k : Lexeme) (rest : Text) → Reads (b ∷ z) k rest → ⊥) → ((rest : Text) → Stops (b ∷ z) rest → ⊥) → Bad (b ∷ z) (trouble.BadByte (length (b ∷ z)))
+      → ((rest : Text) → Gap (b ∷ z) rest → ⊥) → ((k : Lexeme) (rest : Text) → Reads (b ∷ z) k rest → ⊥) → ((rest : Text) → Stops (b ∷ z) rest → ⊥) → Bad (b ∷ z) (error.BadByte (length (b ∷ z)))
 
 -- the first thing wrong with a statement that may have `room` tokens
-pub data Fails (total room : ℕ) : Text → Trouble → Type 0 where
-  bad : (text z : Text) (tokens : List Placed) (t : Trouble) → Passes total text tokens z → length tokens ≤ room → Bad z t → Fails total room text t
-  glued : (text z rest : Text) (tokens : List Placed) (k : Lexeme) → Passes total text tokens z → length tokens < room → Reads z k rest → is_glued k rest ≡ true → Fails total room text (trouble.BadByte (length rest))
-  too_many : (text z rest : Text) (tokens : List Placed) (k : Lexeme) → Passes total text tokens z → length tokens ≡ room → Reads z k rest → Fails total room text (trouble.TooManyTokens (length z))
+pub data Fails (total room : ℕ) : Text → ScanError → Type 0 where
+  bad : (text z : Text) (tokens : List Placed) (t : ScanError) → Passes total text tokens z → length tokens ≤ room → Bad z t → Fails total room text t
+  trailing_junk : (text z rest : Text) (tokens : List Placed) (k : Lexeme) → Passes total text tokens z → length tokens < room → Reads z k rest → is_trailing_junk k rest ≡ true → Fails total room text (error.BadByte (length rest))
+  too_many : (text z rest : Text) (tokens : List Placed) (k : Lexeme) → Passes total text tokens z → length tokens ≡ room → Reads z k rest → Fails total room text (error.TooManyTokens (length z))
 
 -- what the statement that begins at a place is: at most 20,000 tokens and an End, and the place behind it, or the first fault
 pub data IsAnswer (text : Text) (from : ℕ) : Answer → Type 0 where
   tokens : (all : List Placed) (z rest : Text) → Passes (length text) (drop from text) all z → length all ≤ 20000 → Stops z rest → IsAnswer text from (Ok (all ++ token_at (length text) z rest EndOf ∷ [], length text - length rest))
-  fails : (t : Trouble) → Fails (length text) 20000 (drop from text) t → IsAnswer text from (Err (fault_of (length text) t))
+  fails : (t : ScanError) → Fails (length text) 20000 (drop from text) t → IsAnswer text from (Err (fault_of (length text) t))
 
 -- what `lex` returned is what the statement is, unless memory ran out
 abbrev pub IsRight : Text → ℕ → Result Lexed LexFault → Type 0

@@ -1,4 +1,5 @@
 pub mod Bytes
-pub mod Cutting
 pub mod Grammar
+pub mod Lexed
 pub mod Meaning
+pub mod inner

@@ -8,10 +8,11 @@ use Rattle.xp_lexer.specs.declared.numbers.Exponent.{Exponent}
 use Rattle.xp_lexer.specs.declared.numbers.Exponent.TheVariants as shift
 use Rattle.xp_lexer.specs.declared.lexed.LexFault.{LexFault}
 use Rattle.xp_lexer.specs.declared.lexed.LexFault.TheVariants as fault
-use Rattle.xp_lexer.specs.declared.trouble.Trouble.{Trouble}
-use Rattle.xp_lexer.specs.declared.trouble.Trouble.TheVariants as trouble
+use Rattle.xp_lexer.specs.declared.scan_error.ScanError.{ScanError}
+use Rattle.xp_lexer.specs.declared.scan_error.ScanError.TheVariants as error
 use Rattle.xp_token.specs.declared.words.Word.{Word}
-use Rattle.xp_lexer.specs.Bytes.{Text, first, is_decimal, is_name_byte, is_operator_byte, opens_comment}
+use Rattle.xp_base.specs.Operators.{is_operator_byte}
+use Rattle.xp_lexer.specs.Bytes.{Text, first, is_decimal, is_name_byte, opens_comment}
 use Rattle.xp_token.specs.Lexemes.{Lexeme, Placed, NameOf, Reserved, NumberOf, TooWide}
 
 -- the reserved word, or else the name
@@ -62,19 +63,19 @@ is_number TooWide = true
 is_number _ = false
 
 -- a letter, a digit or an underscore stands directly behind a number
-abbrev pub is_glued : Lexeme → Text → Bool
-is_glued k rest = is_number k && is_name_byte (first rest)
+abbrev pub is_trailing_junk : Lexeme → Text → Bool
+is_trailing_junk k rest = is_number k && is_name_byte (first rest)
 
 -- the token between a text and its rest, where the whole has `total` bytes
 abbrev pub token_at : ℕ → Text → Text → Lexeme → Placed
 token_at total z rest k = record { start = total - length z; end = total - length rest; lexeme = k }
 
 -- the place where so many bytes are left
-abbrev pub fault_of : ℕ → Trouble → LexFault
-fault_of total (trouble.BadByte left) = fault.BadByte (total - left)
-fault_of total (trouble.Unclosed left) = fault.Unclosed (total - left)
-fault_of total (trouble.TooManyTokens left) = fault.TooManyTokens (total - left)
-fault_of total trouble.Memory = fault.Memory
+abbrev pub fault_of : ℕ → ScanError → LexFault
+fault_of total (error.BadByte left) = fault.BadByte (total - left)
+fault_of total (error.Unclosed left) = fault.Unclosed (total - left)
+fault_of total (error.TooManyTokens left) = fault.TooManyTokens (total - left)
+fault_of total error.Memory = fault.Memory
 
 -- the tokens of a statement and the place behind it, or the fault
 abbrev pub Answer : Type 0

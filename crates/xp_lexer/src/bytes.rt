@@ -33,34 +33,6 @@ pub fn is_name_byte(b: u8) -> bool
     b.is_ascii_alphanumeric() || b == b'_'
 }
 
-pub fn is_operator_byte(b: u8) -> bool
-    ensures { result ≡ spec.is_operator_byte b }
-{
-    is_sign(b) || is_free(b) || b == b'*' || b == b'/' || b == b'<' || b == b'>' || b == b'='
-}
-
-pub fn is_sign(b: u8) -> bool
-    ensures { result ≡ spec.is_sign b }
-{
-    b == b'+' || b == b'-'
-}
-
-/// A byte that lets an operator end in a sign.
-pub fn is_free(b: u8) -> bool
-    ensures { result ≡ spec.is_free b }
-{
-    b == b'~'
-        || b == b'!'
-        || b == b'@'
-        || b == b'#'
-        || b == b'%'
-        || b == b'^'
-        || b == b'&'
-        || b == b'|'
-        || b == b'`'
-        || b == b'?'
-}
-
 /// A comment begins with these two bytes.
 pub fn opens_comment(b: u8, next: u8) -> bool
     ensures { result ≡ spec.opens_comment b next }

@@ -1,6 +1,7 @@
 //! The tokens of a statement.
 ghost use Rattle.std.specs.Prelude.{◌≡◌, ◌<◌, ◌≤◌, ◌^◌, ◌-◌, length, drop, true, false, IfOk};
-ghost use Rattle.xp_lexer.specs.Cutting as spec;
+ghost use Rattle.xp_lexer.specs.inner.Cutting as spec;
+ghost use Rattle.xp_lexer.specs.Lexed as told;
 ghost use Rattle.xp_lexer.specs.Meaning as meaning;
 ghost use Rattle.xp_lexer.specs.Grammar.{IsAnswer, IsRight};
 ghost use Rattle.xp_token.specs.Ended as ended;
@@ -9,8 +10,8 @@ ghost use Rattle.xp_token.specs.Lexemes.{seen, placed, all_placed};
 
 use crate::bytes::{byte, is_name_byte};
 use crate::lexed::{LexFault, Lexed};
-use crate::pieces::piece;
-use crate::trouble::Trouble;
+use crate::scan::scan_next;
+use crate::scan_error::ScanError;
 use std::alloc::Global;
 use xp_base::{Span, TOKEN_LIMIT};
 use xp_token::{Token, TokenKind, Tokens};
@@ -34,8 +35,8 @@ fn is_operator(kind: &TokenKind) -> bool
 }
 
 /// A letter, a digit or an underscore stands directly behind a number.
-fn is_glued(kind: &TokenKind, rest: &[u8]) -> bool
-    ensures { result ≡ meaning.is_glued (seen kind.now) rest.now }
+fn is_trailing_junk(kind: &TokenKind, rest: &[u8]) -> bool
+    ensures { result ≡ meaning.is_trailing_junk (seen kind.now) rest.now }
 {
     is_number(kind) && is_name_byte(byte(rest, 0))
 }
@@ -57,22 +58,22 @@ fn token_at(total: usize, z: &[u8], rest: &[u8], kind: TokenKind) -> Token
 }
 
 /// A token that is no end may stand here.
-#[tactic(auto, unfolding(crate::specs::Cutting::admitted))]
-fn admit(count: usize, z: &[u8], rest: &[u8], kind: &TokenKind) -> Result<(), Trouble>
+#[tactic(auto, unfolding(crate::specs::inner::Cutting::admitted))]
+fn admit(count: usize, z: &[u8], rest: &[u8], kind: &TokenKind) -> Result<(), ScanError>
     requires { count ≤ 20000 }
     ensures { spec.Gives (λ x. x) result (spec.admitted (20000 - count) z.now rest.now (seen kind.now)) }
 {
     if count == TOKEN_LIMIT as usize {
-        return Err(Trouble::TooManyTokens { left: z.len() });
+        return Err(ScanError::TooManyTokens { left: z.len() });
     }
-    if is_glued(kind, rest) {
-        return Err(Trouble::BadByte { left: rest.len() });
+    if is_trailing_junk(kind, rest) {
+        return Err(ScanError::BadByte { left: rest.len() });
     }
     Ok(())
 }
 
 /// The tokens of the statement at the front, with its end, and the text behind it.
-fn statement(alloc: Global, total: usize, mut z: &[u8]) -> Result<(Tokens, &[u8]), Trouble>
+fn statement(alloc: Global, total: usize, mut z: &[u8]) -> Result<(Tokens, &[u8]), ScanError>
     requires whole { total < 2 ^ 32 }
     requires text { length z.now ≤ total }
     ensures value { spec.Gives (λ x. (all_placed x.0, x.1.now)) result (spec.statement total 20000 false z.entry.now) }
@@ -81,7 +82,7 @@ fn statement(alloc: Global, total: usize, mut z: &[u8]) -> Result<(Tokens, &[u8]
     let mut tokens = Tokens::new(alloc);
     let mut alone = false;
     loop {
-        let (found, rest) = piece(alloc, alone, z)?;
+        let (found, rest) = scan_next(alloc, alone, z)?;
         alone = false;
         if let Some(kind) = found {
             if is_end(&kind) {
@@ -97,29 +98,29 @@ fn statement(alloc: Global, total: usize, mut z: &[u8]) -> Result<(Tokens, &[u8]
 }
 
 /// The place of a trouble, in a whole of `total` bytes.
-fn fault_of(total: usize, trouble: Trouble) -> LexFault
+fn fault_of(total: usize, trouble: ScanError) -> LexFault
     ensures { result ≡ meaning.fault_of total trouble }
 {
     match trouble {
-        Trouble::BadByte { left } => LexFault::BadByte {
+        ScanError::BadByte { left } => LexFault::BadByte {
             at: total.saturating_sub(left) as u64,
         },
-        Trouble::Unclosed { left } => LexFault::Unclosed {
+        ScanError::Unclosed { left } => LexFault::Unclosed {
             start: total.saturating_sub(left) as u64,
         },
-        Trouble::TooManyTokens { left } => LexFault::TooManyTokens {
+        ScanError::TooManyTokens { left } => LexFault::TooManyTokens {
             at: total.saturating_sub(left) as u64,
         },
-        Trouble::Memory => LexFault::Memory,
+        ScanError::Memory => LexFault::Memory,
     }
 }
 
 /// The tokens of the statement that begins at `from`, as the function on lists gives them.
-#[tactic(auto, unfolding(crate::specs::Cutting::lexed))]
+#[tactic(auto, unfolding(crate::specs::Lexed::lexed))]
 fn answer(alloc: Global, text: &[u8], from: u64) -> Result<Lexed, LexFault>
     requires within { from ≤ length text.now }
     requires fits { length text.now < 2 ^ 32 }
-    ensures { spec.Answers result (spec.lexed text.now from) }
+    ensures { told.Answers result (told.lexed text.now from) }
 {
     let total = text.len();
     match statement(alloc, total, &text[from as usize..]) {
@@ -138,9 +139,9 @@ pub fn lex(alloc: Global, text: &[u8], from: u64) -> Result<Lexed, LexFault>
     // What is answered is what the statement is.
     ensures right { IsRight text.now from result }
     // The statement is nothing else, and what it is is answered, unless memory ran out.
-    ensures only { (answer : meaning.Answer) → IsAnswer text.now from answer → spec.Answers result answer }
+    ensures only { (answer : meaning.Answer) → IsAnswer text.now from answer → told.Answers result answer }
     // The answer is told by a function of the text.
-    ensures value { spec.Answers result (spec.lexed text.now from) }
+    ensures value { told.Answers result (told.lexed text.now from) }
     // An End stands behind tokens that are none.
     ensures ends { IfOk result (λ l. is_ended (all_placed l.tokens) ≡ true) }
     // A number isn't negative, and a whole one has no decimals.

@@ -1,11 +1,11 @@
 //! Unquoted names and reserved words.
 ghost use Rattle.std.specs.Prelude.{◌≡◌, ◌<◌, ◌≤◌, length, take, slice_index, true, string_bytes, IfOk};
 ghost use Rattle.std.specs.Str.{str_to_ascii_lowercase, IsAscii};
-ghost use Rattle.xp_lexer.specs.Cutting as spec;
+ghost use Rattle.xp_lexer.specs.inner.Cutting as spec;
 ghost use Rattle.xp_token.specs.Lexemes.{seen};
 
 use crate::bytes::is_name_byte;
-use crate::trouble::Trouble;
+use crate::scan_error::ScanError;
 use std::alloc::Global;
 use std::str;
 use xp_base::Name;
@@ -35,9 +35,9 @@ pub fn ascii(bytes: &[u8]) -> &str
     }
 }
 
-#[tactic(auto, unfolding(crate::specs::Cutting::name))]
+#[tactic(auto, unfolding(crate::specs::inner::Cutting::name))]
 /// The name or reserved word at the front, and the text behind it.
-pub fn name(alloc: Global, z: &[u8]) -> Result<(TokenKind, &[u8]), Trouble>
+pub fn name(alloc: Global, z: &[u8]) -> Result<(TokenKind, &[u8]), ScanError>
     ensures value { spec.Gives (λ x. (seen x.0, x.1.now)) result (spec.name z.now) }
 {
     let (front, rest) = z.split_at(name_len(z));

@@ -1,7 +1,7 @@
 //! Numbers.
 ghost use Rattle.std.specs.Prelude.{◌≡◌, ◌+◌, ◌*◌, ◌^◌, ◌<◌, ◌≤◌, min, length, slice_index, true};
 ghost use Rattle.std.specs.Char.{digit_value, is_digit};
-ghost use Rattle.xp_lexer.specs.Cutting as spec;
+ghost use Rattle.xp_lexer.specs.inner.Cutting as spec;
 ghost use Rattle.xp_lexer.specs.Meaning as meaning;
 ghost use Rattle.xp_token.specs.Lexemes.{seen};
 
@@ -62,7 +62,7 @@ fn digits(base: u32, mut value: u128, mut z: &[u8]) -> (u128, usize, &[u8])
 }
 
 /// The decimal digits at the front, which begin with a digit.
-#[tactic(auto, unfolding(crate::specs::Cutting::decimals))]
+#[tactic(auto, unfolding(crate::specs::inner::Cutting::decimals))]
 fn decimals(value: u128, z: &[u8]) -> (u128, usize, &[u8])
     requires { value ≤ 10 ^ 38 }
     ensures value { (result.0, result.1, result.2.now) ≡ spec.decimals value z.now }
@@ -77,7 +77,7 @@ fn decimals(value: u128, z: &[u8]) -> (u128, usize, &[u8])
 }
 
 /// The point at the front and the digits behind it.
-#[tactic(auto, unfolding(crate::specs::Cutting::fraction))]
+#[tactic(auto, unfolding(crate::specs::inner::Cutting::fraction))]
 fn fraction(value: u128, z: &[u8]) -> (u128, usize, &[u8])
     requires { value ≤ 10 ^ 38 }
     ensures value { (result.0, result.1, result.2.now) ≡ spec.fraction value z.now }
@@ -92,7 +92,7 @@ fn fraction(value: u128, z: &[u8]) -> (u128, usize, &[u8])
 }
 
 /// The sign at the front, whether it is a minus, and the text behind it.
-#[tactic(auto, unfolding(crate::specs::Cutting::sign))]
+#[tactic(auto, unfolding(crate::specs::inner::Cutting::sign))]
 fn sign(z: &[u8]) -> (bool, &[u8])
     ensures value { (result.0, result.1.now) ≡ spec.sign z.now }
     ensures within { length result.1.now ≤ length z.now }
@@ -106,7 +106,7 @@ fn sign(z: &[u8]) -> (bool, &[u8])
 }
 
 /// The exponent at the front.
-#[tactic(auto, unfolding(crate::specs::Cutting::exponent_at, crate::specs::Cutting::exponent_digits))]
+#[tactic(auto, unfolding(crate::specs::inner::Cutting::exponent_at, crate::specs::inner::Cutting::exponent_digits))]
 fn exponent_at(z: &[u8]) -> (Exponent, &[u8])
     ensures value { (result.0, result.1.now) ≡ spec.exponent_at z.now }
     ensures capped { spec.exponent_of result.0 ≤ 10 ^ 38 }
@@ -129,7 +129,7 @@ fn exponent_at(z: &[u8]) -> (Exponent, &[u8])
 }
 
 /// The value with zeros behind it.
-#[tactic(auto, using(crate::proofs::Powers::raised_zero, crate::proofs::Powers::raised_full, crate::proofs::Powers::raised_some, crate::proofs::Powers::ten_fits), unfolding(crate::specs::Cutting::raised))]
+#[tactic(auto, using(crate::proofs::Powers::raised_zero, crate::proofs::Powers::raised_full, crate::proofs::Powers::raised_some, crate::proofs::Powers::ten_fits), unfolding(crate::specs::inner::Cutting::raised))]
 fn raised(value: u128, zeros: u128) -> u128
     requires { value ≤ 10 ^ 38 }
     ensures { result ≡ spec.raised value zeros }
@@ -137,7 +137,7 @@ fn raised(value: u128, zeros: u128) -> u128
     if value == 0 {
         return 0;
     }
-    if zeros > 38 {
+    if zeros > u128::from(DIGIT_LIMIT) {
         return FULL;
     }
     value.saturating_mul(10u128.pow(zeros as u32)).min(FULL)
@@ -186,7 +186,7 @@ fn is_absent(exponent: Exponent) -> bool
 }
 
 /// The decimal number at the front, and the text behind it.
-#[tactic(auto, unfolding(crate::specs::Cutting::decimal, crate::specs::Cutting::decimal_of))]
+#[tactic(auto, unfolding(crate::specs::inner::Cutting::decimal, crate::specs::inner::Cutting::decimal_of))]
 fn decimal(z: &[u8]) -> (TokenKind, &[u8])
     ensures value { (seen result.0, result.1.now) ≡ spec.decimal z.now }
     ensures within { length result.1.now ≤ length z.now }
@@ -214,7 +214,7 @@ fn base_of(letter: u8) -> u32
 }
 
 /// The number at the front, and the text behind it.
-#[tactic(auto, unfolding(crate::specs::Cutting::number))]
+#[tactic(auto, unfolding(crate::specs::inner::Cutting::number))]
 pub fn number(z: &[u8]) -> (TokenKind, &[u8])
     ensures value { (seen result.0, result.1.now) ≡ spec.number z.now }
     ensures within { length result.1.now ≤ length z.now }

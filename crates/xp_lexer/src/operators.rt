@@ -1,16 +1,17 @@
 //! Operators.
 ghost use Rattle.std.specs.Prelude.{◌≡◌, ◌+◌, ◌<◌, ◌≤◌, max, length, take, drop, slice_index, true, false};
 ghost use Rattle.std.specs.Str.{IsAscii};
-ghost use Rattle.xp_lexer.specs.Bytes.{first, is_operator_byte};
-ghost use Rattle.xp_lexer.specs.Cutting as spec;
+ghost use Rattle.xp_base.specs.Operators.{is_operator_byte};
+ghost use Rattle.xp_lexer.specs.Bytes.{first};
+ghost use Rattle.xp_lexer.specs.inner.Cutting as spec;
 ghost use Rattle.xp_lexer.specs.Meaning as meaning;
 ghost use Rattle.xp_token.specs.Lexemes.{seen};
 
-use crate::bytes::{byte, is_free, is_operator_byte, is_sign, opens_comment};
+use crate::bytes::{byte, opens_comment};
 use crate::names::ascii;
-use crate::trouble::Trouble;
+use crate::scan_error::ScanError;
 use std::alloc::Global;
-use xp_base::Name;
+use xp_base::{Name, is_operator_byte, is_sign, is_special_byte};
 use xp_token::TokenKind;
 
 /// An operator goes on with this byte, before that one.
@@ -28,7 +29,7 @@ fn operator_len(mut z: &[u8]) -> usize
 {
     let mut len = 0;
     let mut kept = 1;
-    let mut has_free = false;
+    let mut has_special = false;
     while let [b, tail @ ..] = z {
         if !goes_on(*b, byte(tail, 0)) {
             break;
@@ -37,10 +38,10 @@ fn operator_len(mut z: &[u8]) -> usize
         if !is_sign(*b) {
             kept = len;
         }
-        has_free = has_free || is_free(*b);
+        has_special = has_special || is_special_byte(*b);
         z = tail;
     }
-    if has_free { len } else { kept }
+    if has_special { len } else { kept }
 }
 
 /// The operator as it is read.
@@ -52,8 +53,8 @@ fn spelled(operator: &str) -> &str
 }
 
 /// The operator at the front, of this length, and the text behind it.
-#[tactic(auto, unfolding(crate::specs::Cutting::cut))]
-fn cut(alloc: Global, len: usize, z: &[u8]) -> Result<(TokenKind, &[u8]), Trouble>
+#[tactic(auto, unfolding(crate::specs::inner::Cutting::cut))]
+fn cut(alloc: Global, len: usize, z: &[u8]) -> Result<(TokenKind, &[u8]), ScanError>
     requires within { len ≤ length z.now }
     requires ascii { IsAscii (take len z.now) }
     ensures value { spec.Gives (λ x. (seen x.0, x.1.now)) result (spec.cut len z.now) }
@@ -61,13 +62,13 @@ fn cut(alloc: Global, len: usize, z: &[u8]) -> Result<(TokenKind, &[u8]), Troubl
     let (front, rest) = z.split_at(len);
     match Name::from_str(alloc, spelled(ascii(front))) {
         Ok(name) => Ok((TokenKind::Operator(name), rest)),
-        Err(_) => Err(Trouble::Memory),
+        Err(_) => Err(ScanError::Memory),
     }
 }
 
 /// The operator at the front. Where it stands `alone`, it is one sign behind an operator.
-#[tactic(auto, using(crate::proofs::Ascii::operator_ascii, crate::proofs::Ascii::operator_one_ascii), unfolding(crate::specs::Cutting::operator))]
-pub fn operator(alloc: Global, alone: bool, z: &[u8]) -> Result<(TokenKind, &[u8]), Trouble>
+#[tactic(auto, using(crate::proofs::Ascii::operator_ascii, crate::proofs::Ascii::operator_one_ascii), unfolding(crate::specs::inner::Cutting::operator))]
+pub fn operator(alloc: Global, alone: bool, z: &[u8]) -> Result<(TokenKind, &[u8]), ScanError>
     requires { is_operator_byte (first z.now) ≡ true }
     ensures { spec.Gives (λ x. (seen x.0, x.1.now)) result (spec.operator alone z.now) }
 {

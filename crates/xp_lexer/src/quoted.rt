@@ -1,13 +1,13 @@
 //! String constants and quoted names.
 ghost use Rattle.std.specs.Prelude.{◌≡◌, ◌+◌, ◌<◌, ◌≤◌, ◌^◌, length, take, drop, slice_index, true, false, IfSome, IfOk, string_bytes};
 ghost use Rattle.std.specs.Str.{IsUtf8};
-ghost use Rattle.xp_lexer.specs.Cutting as spec;
+ghost use Rattle.xp_lexer.specs.inner.Cutting as spec;
 ghost use Rattle.xp_lexer.specs.Meaning as meaning;
 ghost use Rattle.xp_token.specs.Lexemes.{seen};
 
 use crate::bytes::byte;
+use crate::scan_error::ScanError;
 use crate::space::continued;
-use crate::trouble::Trouble;
 use std::alloc::Global;
 use std::str;
 use xp_base::{Name, Txt};
@@ -63,7 +63,7 @@ fn clean_len(raw: &[u8]) -> usize
 }
 
 /// The text with each doubled quote as one.
-fn undoubled(alloc: Global, quote: u8, raw: &[u8]) -> Result<String, Trouble>
+fn undoubled(alloc: Global, quote: u8, raw: &[u8]) -> Result<String, ScanError>
     requires text { IsUtf8 raw.now }
     requires quote { quote < 128 }
     ensures { spec.Gives string_bytes result (spec.contents quote raw.now) }
@@ -85,20 +85,20 @@ fn undoubled(alloc: Global, quote: u8, raw: &[u8]) -> Result<String, Trouble>
 }
 
 /// What is quoted, behind the opening quote, and the text behind the closing one.
-#[tactic(auto, unfolding(crate::specs::Cutting::part))]
-fn part(alloc: Global, quote: u8, z: &[u8]) -> Result<(String, &[u8]), Trouble>
+#[tactic(auto, unfolding(crate::specs::inner::Cutting::part))]
+fn part(alloc: Global, quote: u8, z: &[u8]) -> Result<(String, &[u8]), ScanError>
     requires quote { quote < 128 }
     requires fits { length z.now < 2 ^ 63 }
     ensures value { spec.Gives (λ x. (string_bytes x.0, x.1.now)) result (spec.part quote z.now) }
     ensures within { IfOk result (λ x. length x.1.now < length z.now) }
 {
     let Some(len) = raw_len(quote, z) else {
-        return Err(Trouble::Unclosed { left: z.len() + 1 });
+        return Err(ScanError::Unclosed { left: z.len() + 1 });
     };
     let raw = &z[..len];
     let clean = clean_len(raw);
     if clean < len {
-        return Err(Trouble::BadByte {
+        return Err(ScanError::BadByte {
             left: z.len() - clean,
         });
     }
@@ -108,7 +108,7 @@ fn part(alloc: Global, quote: u8, z: &[u8]) -> Result<(String, &[u8]), Trouble>
 
 /// The text with all parts of the constant that follow.
 #[tactic(auto, using(crate::proofs::Parts::all_parts_end, crate::proofs::Parts::all_parts_more))]
-fn all_parts(alloc: Global, mut text: String, mut z: &[u8]) -> Result<(String, &[u8]), Trouble>
+fn all_parts(alloc: Global, mut text: String, mut z: &[u8]) -> Result<(String, &[u8]), ScanError>
     requires { length z.now < 2 ^ 63 }
     ensures value { spec.Gives (λ x. (string_bytes x.0, x.1.now)) result (spec.all_parts (string_bytes text) z.entry.now) }
     ensures within { IfOk result (λ x. length x.1.now ≤ length z.entry.now) }
@@ -122,8 +122,8 @@ fn all_parts(alloc: Global, mut text: String, mut z: &[u8]) -> Result<(String, &
 }
 
 /// The string constant behind this opening quote, and the text behind it.
-#[tactic(auto, unfolding(crate::specs::Cutting::string))]
-pub fn string(alloc: Global, z: &[u8]) -> Result<(TokenKind, &[u8]), Trouble>
+#[tactic(auto, unfolding(crate::specs::inner::Cutting::string))]
+pub fn string(alloc: Global, z: &[u8]) -> Result<(TokenKind, &[u8]), ScanError>
     requires { length z.now < 2 ^ 63 }
     ensures value { spec.Gives (λ x. (seen x.0, x.1.now)) result (spec.string z.now) }
     ensures within { IfOk result (λ x. length x.1.now < length z.now) }
@@ -134,15 +134,15 @@ pub fn string(alloc: Global, z: &[u8]) -> Result<(TokenKind, &[u8]), Trouble>
 }
 
 /// The quoted name behind this opening quote, and the text behind it.
-#[tactic(auto, unfolding(crate::specs::Cutting::quoted_name))]
-pub fn quoted_name(alloc: Global, z: &[u8]) -> Result<(TokenKind, &[u8]), Trouble>
+#[tactic(auto, unfolding(crate::specs::inner::Cutting::quoted_name))]
+pub fn quoted_name(alloc: Global, z: &[u8]) -> Result<(TokenKind, &[u8]), ScanError>
     requires { length z.now < 2 ^ 63 }
     ensures value { spec.Gives (λ x. (seen x.0, x.1.now)) result (spec.quoted_name z.now) }
     ensures within { IfOk result (λ x. length x.1.now < length z.now) }
 {
     let (text, rest) = part(alloc, b'"', z)?;
     if text.is_empty() {
-        return Err(Trouble::BadByte { left: z.len() + 1 });
+        return Err(ScanError::BadByte { left: z.len() + 1 });
     }
     Ok((TokenKind::Quoted(Name::from_string(text)), rest))
 }

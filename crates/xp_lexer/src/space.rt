@@ -1,6 +1,6 @@
 //! White space and comments.
 ghost use Rattle.std.specs.Prelude.{◌≡◌, ◌<◌, ◌≤◌, ◌^◌, length, option_map, IfSome, false};
-ghost use Rattle.xp_lexer.specs.Cutting as spec;
+ghost use Rattle.xp_lexer.specs.inner.Cutting as spec;
 
 use crate::bytes::{byte, is_space};
 

@@ -2,7 +2,8 @@
 use Rattle.std.proofs.Common.{◌≡◌, ℕ, ◌+◌, List, [], ◌∷◌, true, false, None, Some, refl, ap, ◌∙◌, codes}
 use Rattle.std.specs.Option.{option_map}
 use Rattle.xp_base.specs.declared.numbers.Span.{Span}
-use Rattle.xp_lexer.specs.Cutting.{name, decimals, fraction, sign, exponent_digits, exponent_at, raised, decimal_of, decimal, number, cut, part, string, word, operator, mark_at, token, comment, piece, admitted, statement, lexed}
+use Rattle.xp_lexer.specs.Lexed.{lexed}
+use Rattle.xp_lexer.specs.inner.Cutting.{name, decimals, fraction, sign, exponent_digits, exponent_at, raised, decimal_of, decimal, number, cut, part, string, word, operator, mark_at, token, comment, scan_next, admitted, statement}
 use Rattle.xp_lexer.specs.Meaning.{number_of, spelled, is_prefix}
 use Rattle.xp_token.specs.Words.{word_named}
 use Rattle.xp_token.specs.Held.{dec_of}
@@ -39,15 +40,15 @@ abbrev pub truth : ℕ → Resolution
 truth at = Some (constant small (codes "bool") (span at (at + 4)) (Truth true))
 
 divides_read : report small (codes "SELECT 7 / 2") ≡ alone (resolved small (e.Product (span 9 10) (codes "/") (number_at 7 7) (number_at 11 2)))
-unfolding name decimals fraction sign exponent_digits exponent_at raised decimal_of decimal number cut word operator mark_at token comment piece admitted statement lexed number_of spelled is_prefix word_named dec_of first symbol walk choose onward run parse read first_deep parsed answers
+unfolding name decimals fraction sign exponent_digits exponent_at raised decimal_of decimal number cut word operator mark_at token comment scan_next admitted statement lexed number_of spelled is_prefix word_named dec_of first symbol walk choose onward run parse read first_deep parsed answers
 divides_read = refl
 
 raises_read : report small (codes "SELECT 7 / 0") ≡ alone (resolved small (e.Product (span 9 10) (codes "/") (number_at 7 7) (number_at 11 0)))
-unfolding name decimals fraction sign exponent_digits exponent_at raised decimal_of decimal number cut word operator mark_at token comment piece admitted statement lexed number_of spelled is_prefix word_named dec_of first symbol walk choose onward run parse read first_deep parsed answers
+unfolding name decimals fraction sign exponent_digits exponent_at raised decimal_of decimal number cut word operator mark_at token comment scan_next admitted statement lexed number_of spelled is_prefix word_named dec_of first symbol walk choose onward run parse read first_deep parsed answers
 raises_read = refl
 
 undefined_read : report small (codes "SELECT true / 1") ≡ alone (resolved small (e.Product (span 12 13) (codes "/") (e.Bool (span 7 11) true) (number_at 14 1)))
-unfolding name decimals fraction sign exponent_digits exponent_at raised decimal_of decimal number cut word operator mark_at token comment piece admitted statement lexed number_of spelled is_prefix word_named dec_of first symbol walk choose onward run parse read first_deep parsed answers
+unfolding name decimals fraction sign exponent_digits exponent_at raised decimal_of decimal number cut word operator mark_at token comment scan_next admitted statement lexed number_of spelled is_prefix word_named dec_of first symbol walk choose onward run parse read first_deep parsed answers
 undefined_read = refl
 
 -- the blocks of two statements of one expression, the second of which begins at byte 11
@@ -55,7 +56,7 @@ abbrev pub both : Resolution → Resolution → List ℕ
 both first second = blocks_from small 1 (with_bodies (built (span 0 6) (before first (Some (Resolved [])))) ∷ with_bodies (built (span 11 17) (before second (Some (Resolved [])))) ∷ [])
 
 not_built_read : report small (codes "SELECT 1;  SELECT x") ≡ both (resolved small (number_at 7 1)) (resolved small (e.Column (span 18 19) (codes "x")))
-unfolding name decimals fraction sign exponent_digits exponent_at raised decimal_of decimal number cut word operator mark_at token comment piece admitted statement lexed number_of spelled is_prefix word_named dec_of first symbol walk choose onward run parse read first_deep parsed answers
+unfolding name decimals fraction sign exponent_digits exponent_at raised decimal_of decimal number cut word operator mark_at token comment scan_next admitted statement lexed number_of spelled is_prefix word_named dec_of first symbol walk choose onward run parse read first_deep parsed answers
 not_built_read = refl
 
 -- the blocks of one statement of two expressions
@@ -63,15 +64,15 @@ abbrev pub pair : Resolution → Resolution → List ℕ
 pair first second = blocks_from small 1 (with_bodies (built (span 0 6) (before first (before second (Some (Resolved []))))) ∷ [])
 
 several_read : report small (codes "SELECT 1, true") ≡ pair (resolved small (number_at 7 1)) (resolved small (e.Bool (span 10 14) true))
-unfolding name decimals fraction sign exponent_digits exponent_at raised decimal_of decimal number cut word operator mark_at token comment piece admitted statement lexed number_of spelled is_prefix word_named dec_of first symbol walk choose onward run parse read first_deep parsed answers
+unfolding name decimals fraction sign exponent_digits exponent_at raised decimal_of decimal number cut word operator mark_at token comment scan_next admitted statement lexed number_of spelled is_prefix word_named dec_of first symbol walk choose onward run parse read first_deep parsed answers
 several_read = refl
 
 pub syntax_read : report small (codes "SELECT 1 +") ≡ blocks_from small 1 (refused code.Syntax 10 ∷ [])
-unfolding name decimals fraction sign exponent_digits exponent_at raised decimal_of decimal number cut word operator mark_at token comment piece admitted statement lexed number_of spelled is_prefix word_named dec_of first symbol walk choose onward run parse read first_deep parsed answers
+unfolding name decimals fraction sign exponent_digits exponent_at raised decimal_of decimal number cut word operator mark_at token comment scan_next admitted statement lexed number_of spelled is_prefix word_named dec_of first symbol walk choose onward run parse read first_deep parsed answers
 syntax_read = refl
 
 pub unclosed_read : report small (codes "SELECT 'ab") ≡ blocks_from small 1 (refused code.Unclosed 7 ∷ [])
-unfolding name word string part token comment piece admitted statement lexed is_prefix word_named answers
+unfolding name word string part token comment scan_next admitted statement lexed is_prefix word_named answers
 unclosed_read = refl
 
 number_is : (at n : ℕ) → resolved small (number_at at n) ≡ whole at n

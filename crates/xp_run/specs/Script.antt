@@ -5,7 +5,7 @@ use Rattle.xp_catalog.specs.Contents.{Contents}
 use Rattle.xp_grammar.specs.declared.statement.Statement.{Statement}
 use Rattle.xp_lexer.specs.declared.lexed.LexFault.{LexFault}
 use Rattle.xp_lexer.specs.declared.lexed.LexFault.TheVariants as lexical
-use Rattle.xp_lexer.specs.Cutting.{lexed}
+use Rattle.xp_lexer.specs.Lexed.{lexed}
 use Rattle.xp_token.specs.Held.{tokens_of}
 use Rattle.xp_token.specs.Lexemes.{Placed}
 use Rattle.xp_parser.specs.declared.fault.ParseFault.{ParseFault}

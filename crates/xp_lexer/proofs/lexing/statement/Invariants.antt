@@ -1,6 +1,6 @@
 use Rattle.std.proofs.Common.{◌≡◌, ◌-◌, ◌≤◌, false, length}
 use Rattle.xp_token.specs.Lexemes.{all_placed}
-use Rattle.xp_lexer.specs.Cutting.{with_front, statement}
+use Rattle.xp_lexer.specs.inner.Cutting.{with_front, statement}
 use Rattle.xp_lexer.proofs.lexing.statement.Given as goal
 
 abbrev pub invariant-loop-tokens : goal.invariant-loop-tokens

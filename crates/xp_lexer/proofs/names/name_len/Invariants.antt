@@ -1,5 +1,5 @@
 use Rattle.std.proofs.Common.{◌≡◌, ◌+◌, drop}
-use Rattle.xp_lexer.specs.Cutting.{name_len}
+use Rattle.xp_lexer.specs.inner.Cutting.{name_len}
 use Rattle.xp_lexer.proofs.names.name_len.Given as goal
 
 abbrev pub invariant-loop-at : goal.invariant-loop-at

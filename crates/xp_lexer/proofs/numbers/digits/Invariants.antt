@@ -1,5 +1,5 @@
 use Rattle.std.proofs.Common.{◌≡◌, ◌+◌, ◌^◌, ◌≤◌, length}
-use Rattle.xp_lexer.specs.Cutting.{digits}
+use Rattle.xp_lexer.specs.inner.Cutting.{digits}
 use Rattle.xp_lexer.proofs.numbers.digits.Given as goal
 
 abbrev pub invariant-loop-z : goal.invariant-loop-z

@@ -1,5 +1,5 @@
 use Rattle.std.proofs.Common.{◌≡◌, ◌≤◌, length, string_bytes}
-use Rattle.xp_lexer.specs.Cutting.{all_parts}
+use Rattle.xp_lexer.specs.inner.Cutting.{all_parts}
 use Rattle.xp_lexer.proofs.quoted.all_parts.Given as goal
 
 abbrev pub invariant-loop-next : goal.invariant-loop-next

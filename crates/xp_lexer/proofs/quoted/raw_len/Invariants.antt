@@ -1,5 +1,5 @@
 use Rattle.std.proofs.Common.{◌≡◌, ◌+◌, false, length}
-use Rattle.xp_lexer.specs.Cutting.{raw_len}
+use Rattle.xp_lexer.specs.inner.Cutting.{raw_len}
 use Rattle.xp_lexer.proofs.quoted.raw_len.Given as goal
 
 abbrev pub invariant-loop-z : goal.invariant-loop-z

@@ -2,7 +2,7 @@ use Rattle.std.proofs.Common.{◌≡◌, true, false, drop, [], sym, ◌∙◌, 
 use Rattle.std.proofs.lemmas.List.{append-nil}
 use Rattle.std.specs.Str.{IsUtf8}
 use Rattle.xp_base.proofs.Lists.{drop_none}
-use Rattle.xp_lexer.specs.Cutting.{undoubled}
+use Rattle.xp_lexer.specs.inner.Cutting.{undoubled}
 use Rattle.xp_lexer.proofs.Quotes.{undoubled_utf8}
 use Rattle.xp_lexer.proofs.quoted.undoubled.Goals as goal
 

@@ -1,5 +1,5 @@
 use Rattle.std.proofs.Common.{◌≡◌, ◌++◌, false, drop}
-use Rattle.xp_lexer.specs.Cutting.{undoubled}
+use Rattle.xp_lexer.specs.inner.Cutting.{undoubled}
 use Rattle.xp_lexer.proofs.quoted.undoubled.Given as goal
 
 abbrev pub invariant-loop-b : goal.invariant-loop-b

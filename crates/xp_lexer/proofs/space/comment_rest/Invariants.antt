@@ -1,5 +1,5 @@
 use Rattle.std.proofs.Common.{◌≡◌, ◌+◌, ◌≤◌, false, length}
-use Rattle.xp_lexer.specs.Cutting.{comment_rest}
+use Rattle.xp_lexer.specs.inner.Cutting.{comment_rest}
 use Rattle.xp_lexer.proofs.space.comment_rest.Given as goal
 
 abbrev pub invariant-loop-z : goal.invariant-loop-z

@@ -1,5 +1,5 @@
 use Rattle.std.proofs.Common.{◌≡◌, ◌≤◌, false, length}
-use Rattle.xp_lexer.specs.Cutting.{continued}
+use Rattle.xp_lexer.specs.inner.Cutting.{continued}
 use Rattle.xp_lexer.proofs.space.continued.Given as goal
 
 abbrev pub invariant-loop-z : goal.invariant-loop-z

@@ -1,5 +1,5 @@
 use Rattle.std.proofs.Common.{◌≡◌, ◌≤◌, length}
-use Rattle.xp_lexer.specs.Cutting.{line_rest}
+use Rattle.xp_lexer.specs.inner.Cutting.{line_rest}
 use Rattle.xp_lexer.proofs.space.line_rest.Given as goal
 
 abbrev pub invariant-loop-z : goal.invariant-loop-z

@@ -1,7 +1,8 @@
 use Rattle.std.proofs.Common.{refl}
 use Rattle.std.specs.Fmt.{digits}
 use Rattle.csv.specs.Writing.{is_blank, fields_text}
-use Rattle.xp_lexer.specs.Cutting.{piece, statement, lexed}
+use Rattle.xp_lexer.specs.Lexed.{lexed}
+use Rattle.xp_lexer.specs.inner.Cutting.{scan_next, statement}
 use Rattle.xp_token.specs.Held.{dec_of}
 use Rattle.xp_bodies.specs.Table.{arithmetic, bodies}
 use Rattle.xp_run.specs.Script.{answers}
@@ -37,5 +38,5 @@ unfolding digits
 returns-clause-unclosed c = unclosed_read
 
 pub returns-clause-empty : goal.returns-clause-empty
-unfolding answers lexed statement piece
+unfolding answers lexed statement scan_next
 returns-clause-empty c = refl

@@ -1,22 +1,21 @@
--- The plain function that reads a statement from the front of a text, piece by piece (manual 4.1).
+-- The plain function that reads a statement from the front of a text, piece by piece, as the code does.
 use Rattle.std.specs.Prelude.{◌≡◌, ℕ, zero, suc, ◌+◌, ◌-◌, ◌*◌, ◌^◌, min, Bool, true, false, not, ◌&&◌, ◌||◌, if◌then◌else◌, ◌==◌, nat_lt, List, [], ◌∷◌, ◌++◌, length, take, drop, slice_index, Option, Some, None, Result, Ok, Err}
 use Rattle.std.specs.Char.{digit_value, is_digit}
 use Rattle.std.specs.List.{prefix_len}
 use Rattle.std.specs.Str.{str_to_ascii_lowercase}
+use Rattle.xp_base.specs.OrMemory.{OrMemory}
 use Rattle.xp_lexer.specs.declared.numbers.Exponent.{Exponent}
 use Rattle.xp_lexer.specs.declared.numbers.Exponent.TheVariants as shift
-use Rattle.xp_lexer.specs.declared.trouble.Trouble.{Trouble}
-use Rattle.xp_lexer.specs.declared.trouble.Trouble.TheVariants as trouble
-use Rattle.xp_lexer.specs.declared.lexed.Lexed.{Lexed}
-use Rattle.xp_lexer.specs.declared.lexed.LexFault.{LexFault}
-use Rattle.xp_lexer.specs.declared.lexed.LexFault.TheVariants as fault
+use Rattle.xp_lexer.specs.declared.scan_error.ScanError.{ScanError}
+use Rattle.xp_lexer.specs.declared.scan_error.ScanError.TheVariants as error
 use Rattle.xp_token.specs.declared.token.Mark.TheVariants as mark
 use Rattle.xp_token.specs.declared.token.Mark.{Mark}
-use Rattle.xp_token.specs.Lexemes.{Lexeme, Placed, all_placed, QuotedName, Constant, OperatorOf, MarkOf, EndOf}
+use Rattle.xp_token.specs.Lexemes.{Lexeme, Placed, QuotedName, Constant, OperatorOf, MarkOf, EndOf}
 use Rattle.xp_token.specs.Ended.{is_end}
 use Rattle.xp_token.specs.Words.{word_named}
-use Rattle.xp_lexer.specs.Meaning.{named, base_of, is_absent, number_of, goes_on, spelled, clean_len, is_prefix, begins_number, is_glued, token_at, fault_of, Answer}
-use Rattle.xp_lexer.specs.Bytes.{Text, first, is_space, is_decimal, begins_name, is_name_byte, is_sign, is_free, is_operator_byte, opens_comment}
+use Rattle.xp_lexer.specs.Meaning.{named, base_of, is_absent, number_of, goes_on, spelled, clean_len, is_prefix, begins_number, is_trailing_junk, token_at, fault_of, Answer}
+use Rattle.xp_base.specs.Operators.{is_sign, is_special_byte, is_operator_byte}
+use Rattle.xp_lexer.specs.Bytes.{Text, first, is_space, is_decimal, begins_name, is_name_byte, opens_comment}
 
 -- the text from the end of the line on
 abbrev pub line_rest : Text → Text
@@ -39,19 +38,21 @@ continued newline (b ∷ z) =
 
 -- ---- what a function of the code answers
 
--- what a function returned, seen by view, is what reading gives, unless memory ran out
-abbrev pub Fails : {Y : Type 0} → Trouble → Result Y Trouble → Type 0
-Fails trouble.Memory read = Unit {0}
-Fails (trouble.BadByte left) read = read ≡ Err (trouble.BadByte left)
-Fails (trouble.Unclosed left) read = read ≡ Err (trouble.Unclosed left)
-Fails (trouble.TooManyTokens left) read = read ≡ Err (trouble.TooManyTokens left)
+abbrev pub is_memory : ScanError → Bool
+is_memory error.Memory = true
+is_memory _ = false
 
-abbrev pub Gives : {X Y : Type 0} → (X → Y) → Result X Trouble → Result Y Trouble → Type 0
+-- reading gives this error, unless memory ran out
+abbrev pub Fails : {Y : Type 0} → ScanError → Result Y ScanError → Type 0
+Fails e read = OrMemory is_memory read (Err e)
+
+-- what a function returned, seen by view, is what reading gives, unless memory ran out
+abbrev pub Gives : {X Y : Type 0} → (X → Y) → Result X ScanError → Result Y ScanError → Type 0
 Gives view (Ok x) read = read ≡ Ok (view x)
 Gives view (Err e) read = Fails e read
 
 infixl 10 ◌>>=◌
-abbrev pub ◌>>=◌ : {A B : Type 0} → Result A Trouble → (A → Result B Trouble) → Result B Trouble
+abbrev pub ◌>>=◌ : {A B : Type 0} → Result A ScanError → (A → Result B ScanError) → Result B ScanError
 (Ok x) >>= f = f x
 (Err e) >>= f = Err e
 
@@ -60,7 +61,7 @@ abbrev pub ◌>>=◌ : {A B : Type 0} → Result A Trouble → (A → Result B T
 abbrev pub name_len : Text → ℕ
 name_len z = prefix_len is_name_byte z
 
-unfoldable pub name : Text → Result (Lexeme × Text) Trouble
+unfoldable pub name : Text → Result (Lexeme × Text) ScanError
 name z =
     let folded = str_to_ascii_lowercase (take (name_len z) z) in
     Ok (named (word_named folded) folded, drop (name_len z) z)
@@ -138,10 +139,10 @@ number z =
 abbrev pub operator_len : ℕ → ℕ → Bool → Text → ℕ
 operator_len len kept free [] = if free then len else kept
 operator_len len kept free (b ∷ z) =
-    if goes_on b (first z) then operator_len (len + 1) (if is_sign b then kept else len + 1) (free || is_free b) z
+    if goes_on b (first z) then operator_len (len + 1) (if is_sign b then kept else len + 1) (free || is_special_byte b) z
     else (if free then len else kept)
 
-unfoldable pub cut : ℕ → Text → Result (Lexeme × Text) Trouble
+unfoldable pub cut : ℕ → Text → Result (Lexeme × Text) ScanError
 cut len z = Ok (OperatorOf (spelled (take len z)), drop len z)
 
 -- ---- what is quoted
@@ -159,53 +160,53 @@ abbrev pub undoubled : ℕ → Bool → Text → Text
 undoubled quote second [] = []
 undoubled quote second (b ∷ z) = if second && b == quote then undoubled quote false z else b ∷ undoubled quote (b == quote) z
 
-abbrev pub contents : ℕ → Text → Result Text Trouble
+abbrev pub contents : ℕ → Text → Result Text ScanError
 contents quote raw = Ok (undoubled quote false raw)
 
-abbrev pub part_of : ℕ → Text → Option ℕ → Result (Text × Text) Trouble
-part_of quote z None = Err (trouble.Unclosed (length z + 1))
+abbrev pub part_of : ℕ → Text → Option ℕ → Result (Text × Text) ScanError
+part_of quote z None = Err (error.Unclosed (length z + 1))
 part_of quote z (Some len) =
-    if nat_lt (clean_len (take len z)) len then Err (trouble.BadByte (length z - clean_len (take len z)))
+    if nat_lt (clean_len (take len z)) len then Err (error.BadByte (length z - clean_len (take len z)))
     else Ok (undoubled quote false (take len z), drop (len + 1) z)
 
 -- what is quoted, behind the opening quote, and the text behind the closing one
-unfoldable pub part : ℕ → Text → Result (Text × Text) Trouble
+unfoldable pub part : ℕ → Text → Result (Text × Text) ScanError
 part quote z = part_of quote z (raw_len quote false 0 z)
 
-abbrev pub then_more : (Text → Text → Result (Text × Text) Trouble) → Text → Text → Option Text → Result (Text × Text) Trouble
+abbrev pub then_more : (Text → Text → Result (Text × Text) ScanError) → Text → Text → Option Text → Result (Text × Text) ScanError
 then_more go text z None = Ok (text, z)
 then_more go text z (Some q) = part 39 (drop 1 q) >>= (λ p. go (text ++ p.0) p.1)
 
 -- the text with at most n parts more
-abbrev pub more_parts : ℕ → Text → Text → Result (Text × Text) Trouble
+abbrev pub more_parts : ℕ → Text → Text → Result (Text × Text) ScanError
 more_parts zero text z = Ok (text, z)
 more_parts (suc n) text z = then_more (more_parts n) text z (continued false z)
 
 -- the text with all parts that follow
-unfoldable pub all_parts : Text → Text → Result (Text × Text) Trouble
+unfoldable pub all_parts : Text → Text → Result (Text × Text) ScanError
 all_parts text z = more_parts (length z) text z
 
 -- a string constant, behind its opening quote
-unfoldable pub string : Text → Result (Lexeme × Text) Trouble
+unfoldable pub string : Text → Result (Lexeme × Text) ScanError
 string z = (part 39 z >>= (λ p. all_parts p.0 p.1)) >>= (λ s. Ok (Constant s.0, s.1))
 
 -- a quoted name, behind its opening quote
-unfoldable pub quoted_name : Text → Result (Lexeme × Text) Trouble
-quoted_name z = part 34 z >>= (λ p. if length p.0 == 0 then Err (trouble.BadByte (length z + 1)) else Ok (QuotedName p.0, p.1))
+unfoldable pub quoted_name : Text → Result (Lexeme × Text) ScanError
+quoted_name z = part 34 z >>= (λ p. if length p.0 == 0 then Err (error.BadByte (length z + 1)) else Ok (QuotedName p.0, p.1))
 
 -- ---- one piece
 
-unfoldable pub word : Text → Result (Lexeme × Text) Trouble
-word z = if is_prefix z then Err (trouble.BadByte (length z)) else name z
+unfoldable pub word : Text → Result (Lexeme × Text) ScanError
+word z = if is_prefix z then Err (error.BadByte (length z)) else name z
 
 -- Behind an operator a sign stands alone, since that operator would have gone on with it.
-unfoldable pub operator : Bool → Text → Result (Lexeme × Text) Trouble
+unfoldable pub operator : Bool → Text → Result (Lexeme × Text) ScanError
 operator alone z = cut (if alone then 1 else operator_len 0 1 false z) z
 
-abbrev pub one_byte : Mark → Text → Result (Lexeme × Text) Trouble
+abbrev pub one_byte : Mark → Text → Result (Lexeme × Text) ScanError
 one_byte m z = Ok (MarkOf m, drop 1 z)
 
-unfoldable pub mark_at : Text → Result (Lexeme × Text) Trouble
+unfoldable pub mark_at : Text → Result (Lexeme × Text) ScanError
 mark_at z =
     let b = first z in
     if b == 40 then one_byte mark.OpenParen z
@@ -215,9 +216,9 @@ mark_at z =
     else (if b == 44 then one_byte mark.Comma z
     else (if b == 46 then one_byte mark.Point z
     else (if b == 58 && slice_index z 1 == 58 then Ok (MarkOf mark.DoubleColon, drop 2 z)
-    else Err (trouble.BadByte (length z))))))))
+    else Err (error.BadByte (length z))))))))
 
-unfoldable pub token : Bool → Text → Result (Lexeme × Text) Trouble
+unfoldable pub token : Bool → Text → Result (Lexeme × Text) ScanError
 token alone z =
     let b = first z in
     if b == 39 then string (drop 1 z)
@@ -227,20 +228,20 @@ token alone z =
     else (if is_operator_byte b then operator alone z
     else mark_at z))))
 
-abbrev pub behind_comment : Text → Option Text → Result Text Trouble
-behind_comment z None = Err (trouble.Unclosed (length z))
+abbrev pub behind_comment : Text → Option Text → Result Text ScanError
+behind_comment z None = Err (error.Unclosed (length z))
 behind_comment z (Some rest) = Ok rest
 
 -- a comment, which two bytes open
-unfoldable pub comment : Text → Result Text Trouble
+unfoldable pub comment : Text → Result Text ScanError
 comment z = if first z == 45 then Ok (line_rest z) else behind_comment z (comment_rest 1 false (drop 2 z))
 
-abbrev pub Piece : Type 0
-Piece = Result (Option Lexeme × Text) Trouble
+abbrev pub Scanned : Type 0
+Scanned = Result (Option Lexeme × Text) ScanError
 
 -- white space, a comment, a token or the end
-unfoldable pub piece : Bool → Text → Piece
-piece alone z =
+unfoldable pub scan_next : Bool → Text → Scanned
+scan_next alone z =
     let b = first z in
     if length z == 0 then Ok (Some EndOf, z)
     else (if is_space b then Ok (None, drop 1 z)
@@ -255,15 +256,15 @@ is_operator (OperatorOf o) = true
 is_operator _ = false
 
 abbrev pub Statement : Type 0
-Statement = Result (List Placed × Text) Trouble
+Statement = Result (List Placed × Text) ScanError
 
 abbrev pub with_front : List Placed → Statement → Statement
 with_front front read = read >>= (λ q. Ok (front ++ q.0, q.1))
 
 -- whether one token more may stand between the text and its rest, where `room` is how many there may be
-unfoldable pub admitted : ℕ → Text → Text → Lexeme → Result (Unit {0}) Trouble
+unfoldable pub admitted : ℕ → Text → Text → Lexeme → Result (Unit {0}) ScanError
 admitted room z rest k =
-    if room == 0 then Err (trouble.TooManyTokens (length z)) else (if is_glued k rest then Err (trouble.BadByte (length rest)) else Ok tt)
+    if room == 0 then Err (error.TooManyTokens (length z)) else (if is_trailing_junk k rest then Err (error.BadByte (length rest)) else Ok tt)
 
 -- what follows a piece
 abbrev pub onward : (ℕ → Bool → Text → Statement) → ℕ → ℕ → Text → Option Lexeme → Text → Statement
@@ -274,8 +275,8 @@ onward go total room z (Some k) rest =
 
 -- the statement in at most n pieces
 abbrev pub pieces : ℕ → ℕ → ℕ → Bool → Text → Statement
-pieces zero total room alone z = Err trouble.Memory
-pieces (suc n) total room alone z = piece alone z >>= (λ p. onward (pieces n total) total room z p.0 p.1)
+pieces zero total room alone z = Err error.Memory
+pieces (suc n) total room alone z = scan_next alone z >>= (λ p. onward (pieces n total) total room z p.0 p.1)
 
 -- the tokens of a statement with its end, and the text behind it; behind an operator a sign stands alone
 unfoldable pub statement : ℕ → ℕ → Bool → Text → Statement
@@ -284,15 +285,3 @@ statement total room alone z = pieces (suc (length z)) total room alone z
 abbrev pub finished : ℕ → Statement → Answer
 finished total (Ok q) = Ok (q.0, total - length q.1)
 finished total (Err t) = Err (fault_of total t)
-
--- the statement of the text that begins at this place
-unfoldable pub lexed : Text → ℕ → Answer
-lexed text from = finished (length text) (statement (length text) 20000 false (drop from text))
-
--- what `lex` returned is that answer, unless memory ran out
-abbrev pub Answers : Result Lexed LexFault → Answer → Type 0
-Answers (Ok l) answer = answer ≡ Ok (all_placed l.tokens, l.next)
-Answers (Err fault.Memory) answer = Unit {0}
-Answers (Err (fault.BadByte at)) answer = answer ≡ Err (fault.BadByte at)
-Answers (Err (fault.Unclosed start)) answer = answer ≡ Err (fault.Unclosed start)
-Answers (Err (fault.TooManyTokens at)) answer = answer ≡ Err (fault.TooManyTokens at)

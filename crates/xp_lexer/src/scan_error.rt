@@ -2,31 +2,31 @@
 use std::alloc::{AllocError, AllocFailed};
 
 #[derive(Clone, Copy, Debug)]
-pub enum Trouble {
+pub enum ScanError {
     BadByte { left: usize },
     Unclosed { left: usize },
     TooManyTokens { left: usize },
     Memory,
 }
 
-impl From<AllocError> for Trouble {
+impl From<AllocError> for ScanError {
     ghost use Rattle.std.specs.Prelude.{◌≡◌};
-    ghost use Rattle.xp_lexer.specs.declared.trouble.Trouble.TheVariants.{Memory};
+    ghost use Rattle.xp_lexer.specs.declared.scan_error.ScanError.TheVariants.{Memory};
 
     ghost from_gives = { λ _ e. e ≡ Memory };
 
-    fn from(_: AllocError) -> Trouble {
-        Trouble::Memory
+    fn from(_: AllocError) -> ScanError {
+        ScanError::Memory
     }
 }
 
-impl<T: Drop> From<AllocFailed<T>> for Trouble {
+impl<T: Drop> From<AllocFailed<T>> for ScanError {
     ghost use Rattle.std.specs.Prelude.{◌≡◌};
-    ghost use Rattle.xp_lexer.specs.declared.trouble.Trouble.TheVariants.{Memory};
+    ghost use Rattle.xp_lexer.specs.declared.scan_error.ScanError.TheVariants.{Memory};
 
     ghost from_gives = { λ _ e. e ≡ Memory };
 
-    fn from(_: AllocFailed<T>) -> Trouble {
-        Trouble::Memory
+    fn from(_: AllocFailed<T>) -> ScanError {
+        ScanError::Memory
     }
 }

@@ -1,18 +1,19 @@
 //! One piece of a statement: white space, a comment, a token, or the end.
 ghost use Rattle.std.specs.Prelude.{◌≡◌, ◌<◌, ◌≤◌, ◌^◌, length, option_map, true, IfOk, IsSome, Some, false};
 ghost use Rattle.xp_lexer.specs.Bytes.{first, begins_name};
-ghost use Rattle.xp_lexer.specs.Cutting as spec;
+ghost use Rattle.xp_lexer.specs.inner.Cutting as spec;
 ghost use Rattle.xp_lexer.specs.Meaning as meaning;
 ghost use Rattle.xp_token.specs.Lexemes.{seen};
 
-use crate::bytes::{begins_name, byte, is_decimal, is_operator_byte, is_space, opens_comment};
+use crate::bytes::{begins_name, byte, is_decimal, is_space, opens_comment};
 use crate::names::name;
 use crate::numbers::number;
 use crate::operators::operator;
 use crate::quoted::{quoted_name, string};
+use crate::scan_error::ScanError;
 use crate::space::{comment_rest, line_rest};
-use crate::trouble::Trouble;
 use std::alloc::Global;
+use xp_base::is_operator_byte;
 use xp_token::{Mark, TokenKind};
 
 /// A letter before a quote, or `u&` before one, for which no constant stands.
@@ -28,8 +29,8 @@ fn is_prefix(z: &[u8]) -> bool
 }
 
 /// The mark at the front.
-#[tactic(auto, unfolding(crate::specs::Cutting::mark_at))]
-fn mark_at(z: &[u8]) -> Result<(TokenKind, &[u8]), Trouble>
+#[tactic(auto, unfolding(crate::specs::inner::Cutting::mark_at))]
+fn mark_at(z: &[u8]) -> Result<(TokenKind, &[u8]), ScanError>
     requires { 0 < length z.now }
     ensures { spec.Gives (λ x. (seen x.0, x.1.now)) result (spec.mark_at z.now) }
 {
@@ -41,7 +42,7 @@ fn mark_at(z: &[u8]) -> Result<(TokenKind, &[u8]), Trouble>
         b',' => Mark::Comma,
         b'.' => Mark::Point,
         b':' if byte(z, 1) == b':' => return Ok((TokenKind::Mark(Mark::DoubleColon), &z[2..])),
-        _ => return Err(Trouble::BadByte { left: z.len() }),
+        _ => return Err(ScanError::BadByte { left: z.len() }),
     };
     Ok((TokenKind::Mark(mark), &z[1..]))
 }
@@ -53,20 +54,20 @@ fn begins_number(z: &[u8]) -> bool
 }
 
 /// The name or reserved word at the front.
-#[tactic(auto, unfolding(crate::specs::Cutting::word))]
-fn word(alloc: Global, z: &[u8]) -> Result<(TokenKind, &[u8]), Trouble>
+#[tactic(auto, unfolding(crate::specs::inner::Cutting::word))]
+fn word(alloc: Global, z: &[u8]) -> Result<(TokenKind, &[u8]), ScanError>
     requires { begins_name (first z.now) ≡ true }
     ensures { spec.Gives (λ x. (seen x.0, x.1.now)) result (spec.word z.now) }
 {
     if is_prefix(z) {
-        return Err(Trouble::BadByte { left: z.len() });
+        return Err(ScanError::BadByte { left: z.len() });
     }
     name(alloc, z)
 }
 
 /// The token at the front.
-#[tactic(auto, unfolding(crate::specs::Cutting::token))]
-fn token(alloc: Global, alone: bool, z: &[u8]) -> Result<(TokenKind, &[u8]), Trouble>
+#[tactic(auto, unfolding(crate::specs::inner::Cutting::token))]
+fn token(alloc: Global, alone: bool, z: &[u8]) -> Result<(TokenKind, &[u8]), ScanError>
     requires some { 0 < length z.now }
     requires fits { length z.now < 2 ^ 63 }
     ensures { spec.Gives (λ x. (seen x.0, x.1.now)) result (spec.token alone z.now) }
@@ -88,8 +89,8 @@ fn token(alloc: Global, alone: bool, z: &[u8]) -> Result<(TokenKind, &[u8]), Tro
 }
 
 /// The text behind the comment at the front.
-#[tactic(auto, unfolding(crate::specs::Cutting::comment))]
-fn comment(z: &[u8]) -> Result<&[u8], Trouble>
+#[tactic(auto, unfolding(crate::specs::inner::Cutting::comment))]
+fn comment(z: &[u8]) -> Result<&[u8], ScanError>
     requires some { 1 < length z.now }
     requires fits { length z.now < 2 ^ 63 }
     ensures { spec.Gives (λ rest. rest.now) result (spec.comment z.now) }
@@ -99,16 +100,20 @@ fn comment(z: &[u8]) -> Result<&[u8], Trouble>
     }
     match comment_rest(&z[2..]) {
         Some(rest) => Ok(rest),
-        None => Err(Trouble::Unclosed { left: z.len() }),
+        None => Err(ScanError::Unclosed { left: z.len() }),
     }
 }
 
 /// The piece at the front, and the text behind it: a token, or no token for white space or a
 /// comment. Behind an operator a sign stands `alone`.
-#[tactic(auto, unfolding(crate::specs::Cutting::piece))]
-pub fn piece(alloc: Global, alone: bool, z: &[u8]) -> Result<(Option<TokenKind>, &[u8]), Trouble>
+#[tactic(auto, unfolding(crate::specs::inner::Cutting::scan_next))]
+pub fn scan_next(
+    alloc: Global,
+    alone: bool,
+    z: &[u8],
+) -> Result<(Option<TokenKind>, &[u8]), ScanError>
     requires { length z.now < 2 ^ 63 }
-    ensures { spec.Gives (λ x. (option_map seen x.0, x.1.now)) result (spec.piece alone z.now) }
+    ensures { spec.Gives (λ x. (option_map seen x.0, x.1.now)) result (spec.scan_next alone z.now) }
 {
     if z.is_empty() {
         return Ok((Some(TokenKind::End), z));
