@@ -166,7 +166,7 @@ fn call_node<'a>(line: &mut Line<'a>, expr: &'a Ast) -> Result<(), AllocError> {
             Head::Word("cast"),
             *at,
             Part::Expr(inner.get()),
-            Part::Type(target),
+            Part::Type(target.get()),
         ),
         Ast::Case {
             at,
@@ -210,7 +210,7 @@ fn call_node<'a>(line: &mut Line<'a>, expr: &'a Ast) -> Result<(), AllocError> {
             line,
             Head::Word("typed"),
             *at,
-            Part::Type(target),
+            Part::Type(target.get()),
             Part::Text(text.as_str()),
         ),
         _ => Ok(()),

@@ -1,6 +1,8 @@
 -- A front is what some statement begins with.
 use Rattle.std.proofs.Common.{◌≡◌, true, ◌⊎◌, inl, inr, List, [], ◌∷◌, ◌++◌, refl, sym, ap, subst, ◌∙◌, append_assoc, arith}
 use Rattle.xp_token.specs.declared.token.Token.{Token}
+use Rattle.xp_token.specs.declared.words.Word.TheVariants as w
+use Rattle.xp_token.specs.declared.token.Mark.TheVariants as m
 use Rattle.xp_grammar.proofs.Samples.{sample}
 use Rattle.xp_grammar.specs.declared.kind.Kind.TheVariants as k
 use Rattle.xp_grammar.specs.declared.kind.Class.{Class}
@@ -129,10 +131,10 @@ has_Args : Has l.Args
 has_Args = by_line s.one_arg (then_level l.E0 has_E0 nothing)
 
 has_Arms : Has l.Arms
-has_Arms = by_line s.first_arm (then_token (Only k.When) (sample k.When) refl (then_level l.E0 has_E0 (then_token (Only k.Then) (sample k.Then) refl (then_level l.E0 has_E0 nothing))))
+has_Arms = by_line s.first_arm (then_token (Only (k.Word w.When)) (sample (k.Word w.When)) refl (then_level l.E0 has_E0 (then_token (Only (k.Word w.Then)) (sample (k.Word w.Then)) refl (then_level l.E0 has_E0 nothing))))
 
 has_Statement : Has l.Statement
-has_Statement = by_line s.store (then_token (Only k.Store) (sample k.Store) refl (then_level l.Full has_Full (then_token (Only k.From) (sample k.From) refl (then_level l.E0 has_E0 nothing))))
+has_Statement = by_line s.store (then_token (Only (k.Word w.Store)) (sample (k.Word w.Store)) refl (then_level l.Full has_Full (then_token (Only (k.Word w.From)) (sample (k.Word w.From)) refl (then_level l.E0 has_E0 nothing))))
 
 has_Item : Has l.Item
 has_Item = by_line s.item (then_level l.E0 has_E0 nothing)
@@ -144,10 +146,10 @@ has_Items : Has l.Items
 has_Items = by_line s.first_item (then_level l.Item has_Item nothing)
 
 has_Rows : Has l.Rows
-has_Rows = by_line s.first_row (then_token (Only k.Open) (sample k.Open) refl (then_level l.Shown has_Shown (then_token (Only k.Close) (sample k.Close) refl nothing)))
+has_Rows = by_line s.first_row (then_token (Only (k.Mark m.OpenParen)) (sample (k.Mark m.OpenParen)) refl (then_level l.Shown has_Shown (then_token (Only (k.Mark m.CloseParen)) (sample (k.Mark m.CloseParen)) refl nothing)))
 
 has_Selects : Has l.Selects
-has_Selects = by_line s.select (then_token (Only k.Select) (sample k.Select) refl (then_level l.Items has_Items nothing))
+has_Selects = by_line s.select (then_token (Only (k.Word w.Select)) (sample (k.Word w.Select)) refl (then_level l.Items has_Items nothing))
 
 some_level : (m : Level) → Has m
 some_level l.Statement = has_Statement
@@ -184,37 +186,37 @@ Possible (Lev m ∷ ss) = Possible ss
 
 possible_parts : (x : Start) → Possible (parts x)
 possible_parts s.selects = tt
-possible_parts s.values = (((sample k.Values), refl), tt)
-possible_parts s.store = (((sample k.Store), refl), (((sample k.From), refl), tt))
-possible_parts s.describe = (((sample k.Describe), refl), tt)
-possible_parts s.explain = (((sample k.Explain), refl), tt)
-possible_parts s.explain_analyze = (((sample k.Explain), refl), (((sample k.Analyze), refl), tt))
-possible_parts s.select = (((sample k.Select), refl), tt)
+possible_parts s.values = (((sample (k.Word w.Values)), refl), tt)
+possible_parts s.store = (((sample (k.Word w.Store)), refl), (((sample (k.Word w.From)), refl), tt))
+possible_parts s.describe = (((sample (k.Word w.Describe)), refl), tt)
+possible_parts s.explain = (((sample (k.Word w.Explain)), refl), tt)
+possible_parts s.explain_analyze = (((sample (k.Word w.Explain)), refl), (((sample (k.Word w.Analyze)), refl), tt))
+possible_parts s.select = (((sample (k.Word w.Select)), refl), tt)
 possible_parts s.first_item = tt
 possible_parts s.item = tt
-possible_parts s.item_as = (((sample k.As), refl), (((sample k.Name), refl), tt))
-possible_parts s.first_row = (((sample k.Open), refl), (((sample k.Close), refl), tt))
+possible_parts s.item_as = (((sample (k.Word w.As)), refl), (((sample k.Name), refl), tt))
+possible_parts s.first_row = (((sample (k.Mark m.OpenParen)), refl), (((sample (k.Mark m.CloseParen)), refl), tt))
 possible_parts s.first_shown = tt
 possible_parts s.one_or = tt
 possible_parts s.one_and = tt
 possible_parts s.not_free = tt
-possible_parts s.not = (((sample k.Not), refl), tt)
+possible_parts s.not = (((sample (k.Word w.Not)), refl), tt)
 possible_parts s.test_free = tt
-possible_parts s.is_truth = (((sample k.Is), refl), (((sample k.Null), refl), tt))
-possible_parts s.is_not_truth = (((sample k.Is), refl), (((sample k.Not), refl), (((sample k.Null), refl), tt)))
-possible_parts s.isnull = (((sample k.Isnull), refl), tt)
-possible_parts s.notnull = (((sample k.Notnull), refl), tt)
-possible_parts s.is_distinct = (((sample k.Is), refl), (((sample k.Distinct), refl), (((sample k.From), refl), tt)))
-possible_parts s.is_not_distinct = (((sample k.Is), refl), (((sample k.Not), refl), (((sample k.Distinct), refl), (((sample k.From), refl), tt))))
+possible_parts s.is_truth = (((sample (k.Word w.Is)), refl), (((sample (k.Word w.Null)), refl), tt))
+possible_parts s.is_not_truth = (((sample (k.Word w.Is)), refl), (((sample (k.Word w.Not)), refl), (((sample (k.Word w.Null)), refl), tt)))
+possible_parts s.isnull = (((sample (k.Word w.Isnull)), refl), tt)
+possible_parts s.notnull = (((sample (k.Word w.Notnull)), refl), tt)
+possible_parts s.is_distinct = (((sample (k.Word w.Is)), refl), (((sample (k.Word w.Distinct)), refl), (((sample (k.Word w.From)), refl), tt)))
+possible_parts s.is_not_distinct = (((sample (k.Word w.Is)), refl), (((sample (k.Word w.Not)), refl), (((sample (k.Word w.Distinct)), refl), (((sample (k.Word w.From)), refl), tt))))
 possible_parts s.compare_free = tt
 possible_parts s.compared = (((sample k.Compare), refl), tt)
 possible_parts s.range_free = tt
-possible_parts s.between = (((sample k.Between), refl), (((sample k.And), refl), tt))
-possible_parts s.not_between = (((sample k.Not), refl), (((sample k.Between), refl), (((sample k.And), refl), tt)))
-possible_parts s.within = (((sample k.In), refl), (((sample k.Open), refl), (((sample k.Close), refl), tt)))
-possible_parts s.not_within = (((sample k.Not), refl), (((sample k.In), refl), (((sample k.Open), refl), (((sample k.Close), refl), tt))))
-possible_parts s.like = (((sample k.Like), refl), tt)
-possible_parts s.not_like = (((sample k.Not), refl), (((sample k.Like), refl), tt))
+possible_parts s.between = (((sample (k.Word w.Between)), refl), (((sample (k.Word w.And)), refl), tt))
+possible_parts s.not_between = (((sample (k.Word w.Not)), refl), (((sample (k.Word w.Between)), refl), (((sample (k.Word w.And)), refl), tt)))
+possible_parts s.within = (((sample (k.Word w.In)), refl), (((sample (k.Mark m.OpenParen)), refl), (((sample (k.Mark m.CloseParen)), refl), tt)))
+possible_parts s.not_within = (((sample (k.Word w.Not)), refl), (((sample (k.Word w.In)), refl), (((sample (k.Mark m.OpenParen)), refl), (((sample (k.Mark m.CloseParen)), refl), tt))))
+possible_parts s.like = (((sample (k.Word w.Like)), refl), tt)
+possible_parts s.not_like = (((sample (k.Word w.Not)), refl), (((sample (k.Word w.Like)), refl), tt))
 possible_parts s.other_free = tt
 possible_parts s.other_prefix = tt
 possible_parts s.prefix = (((sample k.Other), refl), tt)
@@ -228,40 +230,40 @@ possible_parts s.operand = tt
 possible_parts s.constant = (((sample k.Whole), refl), tt)
 possible_parts s.column = (((sample k.Name), refl), tt)
 possible_parts s.typed_constant = (((sample k.Name), refl), (((sample k.String), refl), tt))
-possible_parts s.called_empty = (((sample k.Name), refl), (((sample k.Open), refl), (((sample k.Close), refl), tt)))
-possible_parts s.called = (((sample k.Name), refl), (((sample k.Open), refl), (((sample k.Close), refl), tt)))
-possible_parts s.paren = (((sample k.Open), refl), (((sample k.Close), refl), tt))
-possible_parts s.cast_as = (((sample k.Cast), refl), (((sample k.Open), refl), (((sample k.As), refl), (((sample k.Close), refl), tt))))
-possible_parts s.cases = (((sample k.Case), refl), (((sample k.End), refl), tt))
-possible_parts s.cases_else = (((sample k.Case), refl), (((sample k.Else), refl), (((sample k.End), refl), tt)))
-possible_parts s.cases_of = (((sample k.Case), refl), (((sample k.End), refl), tt))
-possible_parts s.cases_of_else = (((sample k.Case), refl), (((sample k.Else), refl), (((sample k.End), refl), tt)))
-possible_parts s.selection = (((sample k.Coalesce), refl), (((sample k.Open), refl), (((sample k.Close), refl), tt)))
-possible_parts s.nullif = (((sample k.Nullif), refl), (((sample k.Open), refl), (((sample k.Comma), refl), (((sample k.Close), refl), tt))))
-possible_parts s.array_empty = (((sample k.Array), refl), (((sample k.OpenBracket), refl), (((sample k.CloseBracket), refl), tt)))
-possible_parts s.array = (((sample k.Array), refl), (((sample k.OpenBracket), refl), (((sample k.CloseBracket), refl), tt)))
-possible_parts s.position = (((sample k.Position), refl), (((sample k.Open), refl), (((sample k.In), refl), (((sample k.Close), refl), tt))))
-possible_parts s.substring_one = (((sample k.Substring), refl), (((sample k.Open), refl), (((sample k.Close), refl), tt)))
-possible_parts s.substring_more = (((sample k.Substring), refl), (((sample k.Open), refl), (((sample k.Comma), refl), (((sample k.Close), refl), tt))))
-possible_parts s.substring_from = (((sample k.Substring), refl), (((sample k.Open), refl), (((sample k.From), refl), (((sample k.Close), refl), tt))))
-possible_parts s.substring_from_for = (((sample k.Substring), refl), (((sample k.Open), refl), (((sample k.From), refl), (((sample k.For), refl), (((sample k.Close), refl), tt)))))
-possible_parts s.substring_for = (((sample k.Substring), refl), (((sample k.Open), refl), (((sample k.For), refl), (((sample k.Close), refl), tt))))
-possible_parts s.trim_from = (((sample k.Trim), refl), (((sample k.Open), refl), (((sample k.From), refl), (((sample k.Close), refl), tt))))
-possible_parts s.trim_set_from = (((sample k.Trim), refl), (((sample k.Open), refl), (((sample k.From), refl), (((sample k.Close), refl), tt))))
-possible_parts s.trim_side_from = (((sample k.Trim), refl), (((sample k.Open), refl), (((sample k.Both), refl), (((sample k.From), refl), (((sample k.Close), refl), tt)))))
-possible_parts s.trim_side_set_from = (((sample k.Trim), refl), (((sample k.Open), refl), (((sample k.Both), refl), (((sample k.From), refl), (((sample k.Close), refl), tt)))))
-possible_parts s.trim = (((sample k.Trim), refl), (((sample k.Open), refl), (((sample k.Close), refl), tt)))
-possible_parts s.trim_set = (((sample k.Trim), refl), (((sample k.Open), refl), (((sample k.Comma), refl), (((sample k.Close), refl), tt))))
-possible_parts s.trim_side = (((sample k.Trim), refl), (((sample k.Open), refl), (((sample k.Both), refl), (((sample k.Close), refl), tt))))
-possible_parts s.trim_side_set = (((sample k.Trim), refl), (((sample k.Open), refl), (((sample k.Both), refl), (((sample k.Comma), refl), (((sample k.Close), refl), tt)))))
-possible_parts s.extract = (((sample k.Extract), refl), (((sample k.Open), refl), (((sample k.Name), refl), (((sample k.From), refl), (((sample k.Close), refl), tt)))))
+possible_parts s.called_empty = (((sample k.Name), refl), (((sample (k.Mark m.OpenParen)), refl), (((sample (k.Mark m.CloseParen)), refl), tt)))
+possible_parts s.called = (((sample k.Name), refl), (((sample (k.Mark m.OpenParen)), refl), (((sample (k.Mark m.CloseParen)), refl), tt)))
+possible_parts s.paren = (((sample (k.Mark m.OpenParen)), refl), (((sample (k.Mark m.CloseParen)), refl), tt))
+possible_parts s.cast_as = (((sample (k.Word w.Cast)), refl), (((sample (k.Mark m.OpenParen)), refl), (((sample (k.Word w.As)), refl), (((sample (k.Mark m.CloseParen)), refl), tt))))
+possible_parts s.cases = (((sample (k.Word w.Case)), refl), (((sample (k.Word w.End)), refl), tt))
+possible_parts s.cases_else = (((sample (k.Word w.Case)), refl), (((sample (k.Word w.Else)), refl), (((sample (k.Word w.End)), refl), tt)))
+possible_parts s.cases_of = (((sample (k.Word w.Case)), refl), (((sample (k.Word w.End)), refl), tt))
+possible_parts s.cases_of_else = (((sample (k.Word w.Case)), refl), (((sample (k.Word w.Else)), refl), (((sample (k.Word w.End)), refl), tt)))
+possible_parts s.selection = (((sample (k.Word w.Coalesce)), refl), (((sample (k.Mark m.OpenParen)), refl), (((sample (k.Mark m.CloseParen)), refl), tt)))
+possible_parts s.nullif = (((sample (k.Word w.Nullif)), refl), (((sample (k.Mark m.OpenParen)), refl), (((sample (k.Mark m.Comma)), refl), (((sample (k.Mark m.CloseParen)), refl), tt))))
+possible_parts s.array_empty = (((sample (k.Word w.Array)), refl), (((sample (k.Mark m.OpenBracket)), refl), (((sample (k.Mark m.CloseBracket)), refl), tt)))
+possible_parts s.array = (((sample (k.Word w.Array)), refl), (((sample (k.Mark m.OpenBracket)), refl), (((sample (k.Mark m.CloseBracket)), refl), tt)))
+possible_parts s.position = (((sample (k.Word w.Position)), refl), (((sample (k.Mark m.OpenParen)), refl), (((sample (k.Word w.In)), refl), (((sample (k.Mark m.CloseParen)), refl), tt))))
+possible_parts s.substring_one = (((sample (k.Word w.Substring)), refl), (((sample (k.Mark m.OpenParen)), refl), (((sample (k.Mark m.CloseParen)), refl), tt)))
+possible_parts s.substring_more = (((sample (k.Word w.Substring)), refl), (((sample (k.Mark m.OpenParen)), refl), (((sample (k.Mark m.Comma)), refl), (((sample (k.Mark m.CloseParen)), refl), tt))))
+possible_parts s.substring_from = (((sample (k.Word w.Substring)), refl), (((sample (k.Mark m.OpenParen)), refl), (((sample (k.Word w.From)), refl), (((sample (k.Mark m.CloseParen)), refl), tt))))
+possible_parts s.substring_from_for = (((sample (k.Word w.Substring)), refl), (((sample (k.Mark m.OpenParen)), refl), (((sample (k.Word w.From)), refl), (((sample (k.Word w.For)), refl), (((sample (k.Mark m.CloseParen)), refl), tt)))))
+possible_parts s.substring_for = (((sample (k.Word w.Substring)), refl), (((sample (k.Mark m.OpenParen)), refl), (((sample (k.Word w.For)), refl), (((sample (k.Mark m.CloseParen)), refl), tt))))
+possible_parts s.trim_from = (((sample (k.Word w.Trim)), refl), (((sample (k.Mark m.OpenParen)), refl), (((sample (k.Word w.From)), refl), (((sample (k.Mark m.CloseParen)), refl), tt))))
+possible_parts s.trim_set_from = (((sample (k.Word w.Trim)), refl), (((sample (k.Mark m.OpenParen)), refl), (((sample (k.Word w.From)), refl), (((sample (k.Mark m.CloseParen)), refl), tt))))
+possible_parts s.trim_side_from = (((sample (k.Word w.Trim)), refl), (((sample (k.Mark m.OpenParen)), refl), (((sample (k.Word w.Both)), refl), (((sample (k.Word w.From)), refl), (((sample (k.Mark m.CloseParen)), refl), tt)))))
+possible_parts s.trim_side_set_from = (((sample (k.Word w.Trim)), refl), (((sample (k.Mark m.OpenParen)), refl), (((sample (k.Word w.Both)), refl), (((sample (k.Word w.From)), refl), (((sample (k.Mark m.CloseParen)), refl), tt)))))
+possible_parts s.trim = (((sample (k.Word w.Trim)), refl), (((sample (k.Mark m.OpenParen)), refl), (((sample (k.Mark m.CloseParen)), refl), tt)))
+possible_parts s.trim_set = (((sample (k.Word w.Trim)), refl), (((sample (k.Mark m.OpenParen)), refl), (((sample (k.Mark m.Comma)), refl), (((sample (k.Mark m.CloseParen)), refl), tt))))
+possible_parts s.trim_side = (((sample (k.Word w.Trim)), refl), (((sample (k.Mark m.OpenParen)), refl), (((sample (k.Word w.Both)), refl), (((sample (k.Mark m.CloseParen)), refl), tt))))
+possible_parts s.trim_side_set = (((sample (k.Word w.Trim)), refl), (((sample (k.Mark m.OpenParen)), refl), (((sample (k.Word w.Both)), refl), (((sample (k.Mark m.Comma)), refl), (((sample (k.Mark m.CloseParen)), refl), tt)))))
+possible_parts s.extract = (((sample (k.Word w.Extract)), refl), (((sample (k.Mark m.OpenParen)), refl), (((sample k.Name), refl), (((sample (k.Word w.From)), refl), (((sample (k.Mark m.CloseParen)), refl), tt)))))
 possible_parts s.one_arg = tt
-possible_parts s.variadic = (((sample k.Variadic), refl), tt)
-possible_parts s.first_arm = (((sample k.When), refl), (((sample k.Then), refl), tt))
+possible_parts s.variadic = (((sample (k.Word w.Variadic)), refl), tt)
+possible_parts s.first_arm = (((sample (k.Word w.When)), refl), (((sample (k.Word w.Then)), refl), tt))
 possible_parts s.full_basic = tt
 possible_parts s.basic = tt
-possible_parts s.basic_sized = (((sample k.Open), refl), (((sample k.Whole), refl), (((sample k.Close), refl), tt)))
-possible_parts s.basic_scaled = (((sample k.Open), refl), (((sample k.Whole), refl), (((sample k.Comma), refl), (((sample k.Whole), refl), (((sample k.Close), refl), tt)))))
+possible_parts s.basic_sized = (((sample (k.Mark m.OpenParen)), refl), (((sample k.Whole), refl), (((sample (k.Mark m.CloseParen)), refl), tt)))
+possible_parts s.basic_scaled = (((sample (k.Mark m.OpenParen)), refl), (((sample k.Whole), refl), (((sample (k.Mark m.Comma)), refl), (((sample k.Whole), refl), (((sample (k.Mark m.CloseParen)), refl), tt)))))
 possible_parts s.plain_type = (((sample k.Name), refl), tt)
 possible_parts s.double_type = (((sample k.Double), refl), tt)
 possible_parts s.double_precision = (((sample k.Double), refl), (((sample k.Precision), refl), tt))
@@ -271,25 +273,25 @@ possible_parts s.moment_type = (((sample k.Timestamp), refl), tt)
 possible_parts s.moment_zoned = (((sample k.Timestamp), refl), (((sample k.With), refl), (((sample k.Time), refl), (((sample k.Zone), refl), tt))))
 
 possible_turn : (x : Tail) → Possible (turn x)
-possible_turn c.union = (((sample k.Union), refl), (((sample k.All), refl), (((sample k.Select), refl), tt)))
-possible_turn c.next_item = (((sample k.Comma), refl), tt)
-possible_turn c.next_row = (((sample k.Comma), refl), (((sample k.Open), refl), (((sample k.Close), refl), tt)))
-possible_turn c.next_shown = (((sample k.Comma), refl), tt)
-possible_turn c.or = (((sample k.Or), refl), tt)
-possible_turn c.and = (((sample k.And), refl), tt)
+possible_turn c.union = (((sample (k.Word w.Union)), refl), (((sample (k.Word w.All)), refl), (((sample (k.Word w.Select)), refl), tt)))
+possible_turn c.next_item = (((sample (k.Mark m.Comma)), refl), tt)
+possible_turn c.next_row = (((sample (k.Mark m.Comma)), refl), (((sample (k.Mark m.OpenParen)), refl), (((sample (k.Mark m.CloseParen)), refl), tt)))
+possible_turn c.next_shown = (((sample (k.Mark m.Comma)), refl), tt)
+possible_turn c.or = (((sample (k.Word w.Or)), refl), tt)
+possible_turn c.and = (((sample (k.Word w.And)), refl), tt)
 possible_turn c.other_then = (((sample k.Other), refl), tt)
 possible_turn c.other_then_prefix = (((sample k.Other), refl), tt)
 possible_turn c.added = (((sample k.Sign), refl), tt)
 possible_turn c.multiplied = (((sample k.Times), refl), tt)
 possible_turn c.raised = (((sample k.Power), refl), tt)
-possible_turn c.cast = (((sample k.Typed), refl), tt)
-possible_turn c.empty_brackets = (((sample k.OpenBracket), refl), (((sample k.CloseBracket), refl), tt))
-possible_turn c.brackets = (((sample k.OpenBracket), refl), (((sample k.CloseBracket), refl), tt))
-possible_turn c.next_one = (((sample k.Comma), refl), tt)
-possible_turn c.next_variadic = (((sample k.Comma), refl), (((sample k.Variadic), refl), tt))
-possible_turn c.next_arm = (((sample k.When), refl), (((sample k.Then), refl), tt))
-possible_turn c.full_pair = (((sample k.OpenBracket), refl), (((sample k.CloseBracket), refl), tt))
-possible_turn c.full_sized_pair = (((sample k.OpenBracket), refl), (((sample k.Whole), refl), (((sample k.CloseBracket), refl), tt)))
+possible_turn c.cast = (((sample (k.Mark m.DoubleColon)), refl), tt)
+possible_turn c.empty_brackets = (((sample (k.Mark m.OpenBracket)), refl), (((sample (k.Mark m.CloseBracket)), refl), tt))
+possible_turn c.brackets = (((sample (k.Mark m.OpenBracket)), refl), (((sample (k.Mark m.CloseBracket)), refl), tt))
+possible_turn c.next_one = (((sample (k.Mark m.Comma)), refl), tt)
+possible_turn c.next_variadic = (((sample (k.Mark m.Comma)), refl), (((sample (k.Word w.Variadic)), refl), tt))
+possible_turn c.next_arm = (((sample (k.Word w.When)), refl), (((sample (k.Word w.Then)), refl), tt))
+possible_turn c.full_pair = (((sample (k.Mark m.OpenBracket)), refl), (((sample (k.Mark m.CloseBracket)), refl), tt))
+possible_turn c.full_sized_pair = (((sample (k.Mark m.OpenBracket)), refl), (((sample k.Whole), refl), (((sample (k.Mark m.CloseBracket)), refl), tt)))
 
 some_of : (ss : List Sym) → Possible ss → Some ss
 some_of [] p = nothing

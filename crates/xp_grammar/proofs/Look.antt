@@ -1,6 +1,8 @@
 -- What one token ahead says, and what of that the table keeps.
 use Rattle.std.proofs.Common.{◌≡◌, ℕ, suc, ◌≤◌, Bool, true, false, not, ◌&&◌, ◌||◌, ◌⊎◌, inl, inr, nat_le, List, [], ◌∷◌, Option, Some, None, refl, ap, ◌∙◌, arith}
 use Rattle.std.proofs.lemmas.Bool.{and_parts, or_parts}
+use Rattle.xp_token.specs.declared.words.Word.TheVariants as w
+use Rattle.xp_token.specs.declared.token.Mark.TheVariants as m
 use Rattle.xp_grammar.specs.declared.kind.Kind.{Kind}
 use Rattle.xp_grammar.specs.declared.kind.Class.{Class}
 use Rattle.xp_grammar.specs.Kinds.{has, among}
@@ -13,30 +15,30 @@ use Rattle.xp_grammar.specs.Machine.{Node, Edges, node, stop, edge, trie, tails,
 use Rattle.xp_grammar.proofs.Bits.{implies, implied, implied_false, every, every_at}
 
 abbrev inner_list : Level → List Kind
-inner_list l.Statement = k.String ∷ k.Precision ∷ k.Varying ∷ k.With ∷ k.Without ∷ k.And ∷ k.As ∷ k.Between ∷ k.Ilike ∷ k.In ∷ k.Is ∷ k.Isnull ∷ k.Like ∷ k.Not ∷ k.Notnull ∷ k.Or ∷ k.Union ∷ k.Sign ∷ k.Times ∷ k.Power ∷ k.Compare ∷ k.Other ∷ k.Open ∷ k.OpenBracket ∷ k.Comma ∷ k.Typed ∷ []
-inner_list l.Selects = k.String ∷ k.Precision ∷ k.Varying ∷ k.With ∷ k.Without ∷ k.And ∷ k.As ∷ k.Between ∷ k.Ilike ∷ k.In ∷ k.Is ∷ k.Isnull ∷ k.Like ∷ k.Not ∷ k.Notnull ∷ k.Or ∷ k.Sign ∷ k.Times ∷ k.Power ∷ k.Compare ∷ k.Other ∷ k.Open ∷ k.OpenBracket ∷ k.Comma ∷ k.Typed ∷ []
-inner_list l.Items = k.String ∷ k.Precision ∷ k.Varying ∷ k.With ∷ k.Without ∷ k.And ∷ k.As ∷ k.Between ∷ k.Ilike ∷ k.In ∷ k.Is ∷ k.Isnull ∷ k.Like ∷ k.Not ∷ k.Notnull ∷ k.Or ∷ k.Sign ∷ k.Times ∷ k.Power ∷ k.Compare ∷ k.Other ∷ k.Open ∷ k.OpenBracket ∷ k.Typed ∷ []
-inner_list l.Item = k.String ∷ k.Precision ∷ k.Varying ∷ k.With ∷ k.Without ∷ k.And ∷ k.As ∷ k.Between ∷ k.Ilike ∷ k.In ∷ k.Is ∷ k.Isnull ∷ k.Like ∷ k.Not ∷ k.Notnull ∷ k.Or ∷ k.Sign ∷ k.Times ∷ k.Power ∷ k.Compare ∷ k.Other ∷ k.Open ∷ k.OpenBracket ∷ k.Typed ∷ []
+inner_list l.Statement = k.String ∷ k.Precision ∷ k.Varying ∷ k.With ∷ k.Without ∷ (k.Word w.And) ∷ (k.Word w.As) ∷ (k.Word w.Between) ∷ (k.Word w.Ilike) ∷ (k.Word w.In) ∷ (k.Word w.Is) ∷ (k.Word w.Isnull) ∷ (k.Word w.Like) ∷ (k.Word w.Not) ∷ (k.Word w.Notnull) ∷ (k.Word w.Or) ∷ (k.Word w.Union) ∷ k.Sign ∷ k.Times ∷ k.Power ∷ k.Compare ∷ k.Other ∷ (k.Mark m.OpenParen) ∷ (k.Mark m.OpenBracket) ∷ (k.Mark m.Comma) ∷ (k.Mark m.DoubleColon) ∷ []
+inner_list l.Selects = k.String ∷ k.Precision ∷ k.Varying ∷ k.With ∷ k.Without ∷ (k.Word w.And) ∷ (k.Word w.As) ∷ (k.Word w.Between) ∷ (k.Word w.Ilike) ∷ (k.Word w.In) ∷ (k.Word w.Is) ∷ (k.Word w.Isnull) ∷ (k.Word w.Like) ∷ (k.Word w.Not) ∷ (k.Word w.Notnull) ∷ (k.Word w.Or) ∷ k.Sign ∷ k.Times ∷ k.Power ∷ k.Compare ∷ k.Other ∷ (k.Mark m.OpenParen) ∷ (k.Mark m.OpenBracket) ∷ (k.Mark m.Comma) ∷ (k.Mark m.DoubleColon) ∷ []
+inner_list l.Items = k.String ∷ k.Precision ∷ k.Varying ∷ k.With ∷ k.Without ∷ (k.Word w.And) ∷ (k.Word w.As) ∷ (k.Word w.Between) ∷ (k.Word w.Ilike) ∷ (k.Word w.In) ∷ (k.Word w.Is) ∷ (k.Word w.Isnull) ∷ (k.Word w.Like) ∷ (k.Word w.Not) ∷ (k.Word w.Notnull) ∷ (k.Word w.Or) ∷ k.Sign ∷ k.Times ∷ k.Power ∷ k.Compare ∷ k.Other ∷ (k.Mark m.OpenParen) ∷ (k.Mark m.OpenBracket) ∷ (k.Mark m.DoubleColon) ∷ []
+inner_list l.Item = k.String ∷ k.Precision ∷ k.Varying ∷ k.With ∷ k.Without ∷ (k.Word w.And) ∷ (k.Word w.As) ∷ (k.Word w.Between) ∷ (k.Word w.Ilike) ∷ (k.Word w.In) ∷ (k.Word w.Is) ∷ (k.Word w.Isnull) ∷ (k.Word w.Like) ∷ (k.Word w.Not) ∷ (k.Word w.Notnull) ∷ (k.Word w.Or) ∷ k.Sign ∷ k.Times ∷ k.Power ∷ k.Compare ∷ k.Other ∷ (k.Mark m.OpenParen) ∷ (k.Mark m.OpenBracket) ∷ (k.Mark m.DoubleColon) ∷ []
 inner_list l.Rows = []
-inner_list l.Shown = k.String ∷ k.Precision ∷ k.Varying ∷ k.With ∷ k.Without ∷ k.And ∷ k.Between ∷ k.Ilike ∷ k.In ∷ k.Is ∷ k.Isnull ∷ k.Like ∷ k.Not ∷ k.Notnull ∷ k.Or ∷ k.Sign ∷ k.Times ∷ k.Power ∷ k.Compare ∷ k.Other ∷ k.Open ∷ k.OpenBracket ∷ k.Typed ∷ []
-inner_list l.E0 = k.String ∷ k.Precision ∷ k.Varying ∷ k.With ∷ k.Without ∷ k.And ∷ k.Between ∷ k.Ilike ∷ k.In ∷ k.Is ∷ k.Isnull ∷ k.Like ∷ k.Not ∷ k.Notnull ∷ k.Sign ∷ k.Times ∷ k.Power ∷ k.Compare ∷ k.Other ∷ k.Open ∷ k.OpenBracket ∷ k.Typed ∷ []
-inner_list l.E1 = k.String ∷ k.Precision ∷ k.Varying ∷ k.With ∷ k.Without ∷ k.Between ∷ k.Ilike ∷ k.In ∷ k.Is ∷ k.Isnull ∷ k.Like ∷ k.Not ∷ k.Notnull ∷ k.Sign ∷ k.Times ∷ k.Power ∷ k.Compare ∷ k.Other ∷ k.Open ∷ k.OpenBracket ∷ k.Typed ∷ []
-inner_list l.E2 = k.String ∷ k.Precision ∷ k.Varying ∷ k.With ∷ k.Without ∷ k.Between ∷ k.Ilike ∷ k.In ∷ k.Is ∷ k.Isnull ∷ k.Like ∷ k.Not ∷ k.Notnull ∷ k.Sign ∷ k.Times ∷ k.Power ∷ k.Compare ∷ k.Other ∷ k.Open ∷ k.OpenBracket ∷ k.Typed ∷ []
-inner_list l.E3 = k.String ∷ k.Precision ∷ k.Varying ∷ k.With ∷ k.Without ∷ k.Between ∷ k.Ilike ∷ k.In ∷ k.Is ∷ k.Isnull ∷ k.Like ∷ k.Not ∷ k.Notnull ∷ k.Sign ∷ k.Times ∷ k.Power ∷ k.Compare ∷ k.Other ∷ k.Open ∷ k.OpenBracket ∷ k.Typed ∷ []
-inner_list l.E4 = k.String ∷ k.Precision ∷ k.Varying ∷ k.With ∷ k.Without ∷ k.Between ∷ k.Ilike ∷ k.In ∷ k.Like ∷ k.Not ∷ k.Sign ∷ k.Times ∷ k.Power ∷ k.Compare ∷ k.Other ∷ k.Open ∷ k.OpenBracket ∷ k.Typed ∷ []
-inner_list l.E5 = k.String ∷ k.Precision ∷ k.Varying ∷ k.With ∷ k.Without ∷ k.Between ∷ k.Ilike ∷ k.In ∷ k.Like ∷ k.Not ∷ k.Sign ∷ k.Times ∷ k.Power ∷ k.Other ∷ k.Open ∷ k.OpenBracket ∷ k.Typed ∷ []
-inner_list l.E6 = k.String ∷ k.Precision ∷ k.Varying ∷ k.With ∷ k.Without ∷ k.Sign ∷ k.Times ∷ k.Power ∷ k.Open ∷ k.OpenBracket ∷ k.Typed ∷ []
-inner_list l.P = k.String ∷ k.Precision ∷ k.Varying ∷ k.With ∷ k.Without ∷ k.Sign ∷ k.Times ∷ k.Power ∷ k.Open ∷ k.OpenBracket ∷ k.Typed ∷ []
-inner_list l.E7 = k.String ∷ k.Precision ∷ k.Varying ∷ k.With ∷ k.Without ∷ k.Times ∷ k.Power ∷ k.Open ∷ k.OpenBracket ∷ k.Typed ∷ []
-inner_list l.E8 = k.String ∷ k.Precision ∷ k.Varying ∷ k.With ∷ k.Without ∷ k.Power ∷ k.Open ∷ k.OpenBracket ∷ k.Typed ∷ []
-inner_list l.E9 = k.String ∷ k.Precision ∷ k.Varying ∷ k.With ∷ k.Without ∷ k.Open ∷ k.OpenBracket ∷ k.Typed ∷ []
-inner_list l.E10 = k.String ∷ k.Precision ∷ k.Varying ∷ k.With ∷ k.Without ∷ k.Open ∷ k.OpenBracket ∷ k.Typed ∷ []
-inner_list l.E11 = k.String ∷ k.Precision ∷ k.Varying ∷ k.With ∷ k.Without ∷ k.Open ∷ []
-inner_list l.E12 = k.String ∷ k.Open ∷ []
-inner_list l.Args = k.String ∷ k.Precision ∷ k.Varying ∷ k.With ∷ k.Without ∷ k.And ∷ k.Between ∷ k.Ilike ∷ k.In ∷ k.Is ∷ k.Isnull ∷ k.Like ∷ k.Not ∷ k.Notnull ∷ k.Or ∷ k.Sign ∷ k.Times ∷ k.Power ∷ k.Compare ∷ k.Other ∷ k.Open ∷ k.OpenBracket ∷ k.Typed ∷ []
-inner_list l.Arms = k.String ∷ k.Precision ∷ k.Varying ∷ k.With ∷ k.Without ∷ k.And ∷ k.Between ∷ k.Ilike ∷ k.In ∷ k.Is ∷ k.Isnull ∷ k.Like ∷ k.Not ∷ k.Notnull ∷ k.Or ∷ k.Sign ∷ k.Times ∷ k.Power ∷ k.Compare ∷ k.Other ∷ k.Open ∷ k.OpenBracket ∷ k.Typed ∷ []
-inner_list l.Full = k.Precision ∷ k.Varying ∷ k.With ∷ k.Without ∷ k.Open ∷ []
-inner_list l.Basic = k.Precision ∷ k.Varying ∷ k.With ∷ k.Without ∷ k.Open ∷ []
+inner_list l.Shown = k.String ∷ k.Precision ∷ k.Varying ∷ k.With ∷ k.Without ∷ (k.Word w.And) ∷ (k.Word w.Between) ∷ (k.Word w.Ilike) ∷ (k.Word w.In) ∷ (k.Word w.Is) ∷ (k.Word w.Isnull) ∷ (k.Word w.Like) ∷ (k.Word w.Not) ∷ (k.Word w.Notnull) ∷ (k.Word w.Or) ∷ k.Sign ∷ k.Times ∷ k.Power ∷ k.Compare ∷ k.Other ∷ (k.Mark m.OpenParen) ∷ (k.Mark m.OpenBracket) ∷ (k.Mark m.DoubleColon) ∷ []
+inner_list l.E0 = k.String ∷ k.Precision ∷ k.Varying ∷ k.With ∷ k.Without ∷ (k.Word w.And) ∷ (k.Word w.Between) ∷ (k.Word w.Ilike) ∷ (k.Word w.In) ∷ (k.Word w.Is) ∷ (k.Word w.Isnull) ∷ (k.Word w.Like) ∷ (k.Word w.Not) ∷ (k.Word w.Notnull) ∷ k.Sign ∷ k.Times ∷ k.Power ∷ k.Compare ∷ k.Other ∷ (k.Mark m.OpenParen) ∷ (k.Mark m.OpenBracket) ∷ (k.Mark m.DoubleColon) ∷ []
+inner_list l.E1 = k.String ∷ k.Precision ∷ k.Varying ∷ k.With ∷ k.Without ∷ (k.Word w.Between) ∷ (k.Word w.Ilike) ∷ (k.Word w.In) ∷ (k.Word w.Is) ∷ (k.Word w.Isnull) ∷ (k.Word w.Like) ∷ (k.Word w.Not) ∷ (k.Word w.Notnull) ∷ k.Sign ∷ k.Times ∷ k.Power ∷ k.Compare ∷ k.Other ∷ (k.Mark m.OpenParen) ∷ (k.Mark m.OpenBracket) ∷ (k.Mark m.DoubleColon) ∷ []
+inner_list l.E2 = k.String ∷ k.Precision ∷ k.Varying ∷ k.With ∷ k.Without ∷ (k.Word w.Between) ∷ (k.Word w.Ilike) ∷ (k.Word w.In) ∷ (k.Word w.Is) ∷ (k.Word w.Isnull) ∷ (k.Word w.Like) ∷ (k.Word w.Not) ∷ (k.Word w.Notnull) ∷ k.Sign ∷ k.Times ∷ k.Power ∷ k.Compare ∷ k.Other ∷ (k.Mark m.OpenParen) ∷ (k.Mark m.OpenBracket) ∷ (k.Mark m.DoubleColon) ∷ []
+inner_list l.E3 = k.String ∷ k.Precision ∷ k.Varying ∷ k.With ∷ k.Without ∷ (k.Word w.Between) ∷ (k.Word w.Ilike) ∷ (k.Word w.In) ∷ (k.Word w.Is) ∷ (k.Word w.Isnull) ∷ (k.Word w.Like) ∷ (k.Word w.Not) ∷ (k.Word w.Notnull) ∷ k.Sign ∷ k.Times ∷ k.Power ∷ k.Compare ∷ k.Other ∷ (k.Mark m.OpenParen) ∷ (k.Mark m.OpenBracket) ∷ (k.Mark m.DoubleColon) ∷ []
+inner_list l.E4 = k.String ∷ k.Precision ∷ k.Varying ∷ k.With ∷ k.Without ∷ (k.Word w.Between) ∷ (k.Word w.Ilike) ∷ (k.Word w.In) ∷ (k.Word w.Like) ∷ (k.Word w.Not) ∷ k.Sign ∷ k.Times ∷ k.Power ∷ k.Compare ∷ k.Other ∷ (k.Mark m.OpenParen) ∷ (k.Mark m.OpenBracket) ∷ (k.Mark m.DoubleColon) ∷ []
+inner_list l.E5 = k.String ∷ k.Precision ∷ k.Varying ∷ k.With ∷ k.Without ∷ (k.Word w.Between) ∷ (k.Word w.Ilike) ∷ (k.Word w.In) ∷ (k.Word w.Like) ∷ (k.Word w.Not) ∷ k.Sign ∷ k.Times ∷ k.Power ∷ k.Other ∷ (k.Mark m.OpenParen) ∷ (k.Mark m.OpenBracket) ∷ (k.Mark m.DoubleColon) ∷ []
+inner_list l.E6 = k.String ∷ k.Precision ∷ k.Varying ∷ k.With ∷ k.Without ∷ k.Sign ∷ k.Times ∷ k.Power ∷ (k.Mark m.OpenParen) ∷ (k.Mark m.OpenBracket) ∷ (k.Mark m.DoubleColon) ∷ []
+inner_list l.P = k.String ∷ k.Precision ∷ k.Varying ∷ k.With ∷ k.Without ∷ k.Sign ∷ k.Times ∷ k.Power ∷ (k.Mark m.OpenParen) ∷ (k.Mark m.OpenBracket) ∷ (k.Mark m.DoubleColon) ∷ []
+inner_list l.E7 = k.String ∷ k.Precision ∷ k.Varying ∷ k.With ∷ k.Without ∷ k.Times ∷ k.Power ∷ (k.Mark m.OpenParen) ∷ (k.Mark m.OpenBracket) ∷ (k.Mark m.DoubleColon) ∷ []
+inner_list l.E8 = k.String ∷ k.Precision ∷ k.Varying ∷ k.With ∷ k.Without ∷ k.Power ∷ (k.Mark m.OpenParen) ∷ (k.Mark m.OpenBracket) ∷ (k.Mark m.DoubleColon) ∷ []
+inner_list l.E9 = k.String ∷ k.Precision ∷ k.Varying ∷ k.With ∷ k.Without ∷ (k.Mark m.OpenParen) ∷ (k.Mark m.OpenBracket) ∷ (k.Mark m.DoubleColon) ∷ []
+inner_list l.E10 = k.String ∷ k.Precision ∷ k.Varying ∷ k.With ∷ k.Without ∷ (k.Mark m.OpenParen) ∷ (k.Mark m.OpenBracket) ∷ (k.Mark m.DoubleColon) ∷ []
+inner_list l.E11 = k.String ∷ k.Precision ∷ k.Varying ∷ k.With ∷ k.Without ∷ (k.Mark m.OpenParen) ∷ []
+inner_list l.E12 = k.String ∷ (k.Mark m.OpenParen) ∷ []
+inner_list l.Args = k.String ∷ k.Precision ∷ k.Varying ∷ k.With ∷ k.Without ∷ (k.Word w.And) ∷ (k.Word w.Between) ∷ (k.Word w.Ilike) ∷ (k.Word w.In) ∷ (k.Word w.Is) ∷ (k.Word w.Isnull) ∷ (k.Word w.Like) ∷ (k.Word w.Not) ∷ (k.Word w.Notnull) ∷ (k.Word w.Or) ∷ k.Sign ∷ k.Times ∷ k.Power ∷ k.Compare ∷ k.Other ∷ (k.Mark m.OpenParen) ∷ (k.Mark m.OpenBracket) ∷ (k.Mark m.DoubleColon) ∷ []
+inner_list l.Arms = k.String ∷ k.Precision ∷ k.Varying ∷ k.With ∷ k.Without ∷ (k.Word w.And) ∷ (k.Word w.Between) ∷ (k.Word w.Ilike) ∷ (k.Word w.In) ∷ (k.Word w.Is) ∷ (k.Word w.Isnull) ∷ (k.Word w.Like) ∷ (k.Word w.Not) ∷ (k.Word w.Notnull) ∷ (k.Word w.Or) ∷ k.Sign ∷ k.Times ∷ k.Power ∷ k.Compare ∷ k.Other ∷ (k.Mark m.OpenParen) ∷ (k.Mark m.OpenBracket) ∷ (k.Mark m.DoubleColon) ∷ []
+inner_list l.Full = k.Precision ∷ k.Varying ∷ k.With ∷ k.Without ∷ (k.Mark m.OpenParen) ∷ []
+inner_list l.Basic = k.Precision ∷ k.Varying ∷ k.With ∷ k.Without ∷ (k.Mark m.OpenParen) ∷ []
 inner_list l.Typename = k.Precision ∷ k.Varying ∷ k.With ∷ k.Without ∷ []
 
 unfoldable pub inner : Level → Kind → Bool

@@ -4,7 +4,10 @@ use Rattle.xp_base.specs.declared.numbers.Span.{Span}
 use Rattle.xp_token.specs.declared.token.Token.{Token}
 use Rattle.xp_token.specs.declared.token.TokenKind.{TokenKind}
 use Rattle.xp_token.specs.declared.token.TokenKind.TheVariants as t
+use Rattle.xp_token.specs.declared.words.Word.{Word as Reserved}
 use Rattle.xp_token.specs.declared.words.Word.TheVariants as w
+use Rattle.xp_token.specs.declared.token.Mark.{Mark}
+use Rattle.xp_token.specs.declared.token.Mark.TheVariants as m
 use Rattle.xp_grammar.specs.declared.kind.Kind.{Kind}
 use Rattle.xp_grammar.specs.declared.kind.Kind.TheVariants as k
 use Rattle.xp_grammar.specs.declared.kind.Class.{Class}
@@ -42,6 +45,12 @@ pub data Sym : Type 0 where
 
 abbrev pub tok : Kind → Sym
 tok a = Tok (Only a)
+
+abbrev pub word : Reserved → Sym
+word a = tok (k.Word a)
+
+abbrev pub mark : Mark → Sym
+mark a = tok (k.Mark a)
 
 -- What is read by a token or a level. Casted is an expression that ends in a type, with the place of its `::`; Given are arguments, with the word VARIADIC before the last or not.
 pub data Value : Type 0 where
@@ -158,37 +167,37 @@ level moment_zoned = Typename
 
 abbrev pub parts : Start → List Sym
 parts selects = Lev Selects ∷ []
-parts values = tok k.Values ∷ Lev Rows ∷ []
-parts store = tok k.Store ∷ Lev Full ∷ tok k.From ∷ Lev E0 ∷ []
-parts describe = tok k.Describe ∷ Lev Shown ∷ []
-parts explain = tok k.Explain ∷ Lev E0 ∷ []
-parts explain_analyze = tok k.Explain ∷ tok k.Analyze ∷ Lev E0 ∷ []
-parts select = tok k.Select ∷ Lev Items ∷ []
+parts values = word w.Values ∷ Lev Rows ∷ []
+parts store = word w.Store ∷ Lev Full ∷ word w.From ∷ Lev E0 ∷ []
+parts describe = word w.Describe ∷ Lev Shown ∷ []
+parts explain = word w.Explain ∷ Lev E0 ∷ []
+parts explain_analyze = word w.Explain ∷ word w.Analyze ∷ Lev E0 ∷ []
+parts select = word w.Select ∷ Lev Items ∷ []
 parts first_item = Lev Item ∷ []
 parts item = Lev E0 ∷ []
-parts item_as = Lev E0 ∷ tok k.As ∷ Tok Names ∷ []
-parts first_row = tok k.Open ∷ Lev Shown ∷ tok k.Close ∷ []
+parts item_as = Lev E0 ∷ word w.As ∷ Tok Names ∷ []
+parts first_row = mark m.OpenParen ∷ Lev Shown ∷ mark m.CloseParen ∷ []
 parts first_shown = Lev E0 ∷ []
 parts one_or = Lev E1 ∷ []
 parts one_and = Lev E2 ∷ []
 parts not_free = Lev E3 ∷ []
-parts not = tok k.Not ∷ Lev E2 ∷ []
+parts not = word w.Not ∷ Lev E2 ∷ []
 parts test_free = Lev E4 ∷ []
-parts is_truth = Lev E4 ∷ tok k.Is ∷ Tok TruthTests ∷ []
-parts is_not_truth = Lev E4 ∷ tok k.Is ∷ tok k.Not ∷ Tok TruthTests ∷ []
-parts isnull = Lev E4 ∷ tok k.Isnull ∷ []
-parts notnull = Lev E4 ∷ tok k.Notnull ∷ []
-parts is_distinct = Lev E4 ∷ tok k.Is ∷ tok k.Distinct ∷ tok k.From ∷ Lev E4 ∷ []
-parts is_not_distinct = Lev E4 ∷ tok k.Is ∷ tok k.Not ∷ tok k.Distinct ∷ tok k.From ∷ Lev E4 ∷ []
+parts is_truth = Lev E4 ∷ word w.Is ∷ Tok TruthTests ∷ []
+parts is_not_truth = Lev E4 ∷ word w.Is ∷ word w.Not ∷ Tok TruthTests ∷ []
+parts isnull = Lev E4 ∷ word w.Isnull ∷ []
+parts notnull = Lev E4 ∷ word w.Notnull ∷ []
+parts is_distinct = Lev E4 ∷ word w.Is ∷ word w.Distinct ∷ word w.From ∷ Lev E4 ∷ []
+parts is_not_distinct = Lev E4 ∷ word w.Is ∷ word w.Not ∷ word w.Distinct ∷ word w.From ∷ Lev E4 ∷ []
 parts compare_free = Lev E5 ∷ []
 parts compared = Lev E5 ∷ tok k.Compare ∷ Lev E5 ∷ []
 parts range_free = Lev E6 ∷ []
-parts between = Lev E6 ∷ tok k.Between ∷ Lev E6 ∷ tok k.And ∷ Lev E6 ∷ []
-parts not_between = Lev E6 ∷ tok k.Not ∷ tok k.Between ∷ Lev E6 ∷ tok k.And ∷ Lev E6 ∷ []
-parts within = Lev E6 ∷ tok k.In ∷ tok k.Open ∷ Lev Shown ∷ tok k.Close ∷ []
-parts not_within = Lev E6 ∷ tok k.Not ∷ tok k.In ∷ tok k.Open ∷ Lev Shown ∷ tok k.Close ∷ []
+parts between = Lev E6 ∷ word w.Between ∷ Lev E6 ∷ word w.And ∷ Lev E6 ∷ []
+parts not_between = Lev E6 ∷ word w.Not ∷ word w.Between ∷ Lev E6 ∷ word w.And ∷ Lev E6 ∷ []
+parts within = Lev E6 ∷ word w.In ∷ mark m.OpenParen ∷ Lev Shown ∷ mark m.CloseParen ∷ []
+parts not_within = Lev E6 ∷ word w.Not ∷ word w.In ∷ mark m.OpenParen ∷ Lev Shown ∷ mark m.CloseParen ∷ []
 parts like = Lev E6 ∷ Tok Likes ∷ Lev E6 ∷ []
-parts not_like = Lev E6 ∷ tok k.Not ∷ Tok Likes ∷ Lev E6 ∷ []
+parts not_like = Lev E6 ∷ word w.Not ∷ Tok Likes ∷ Lev E6 ∷ []
 parts other_free = Lev E7 ∷ []
 parts other_prefix = Lev P ∷ []
 parts prefix = tok k.Other ∷ Lev E7 ∷ []
@@ -202,40 +211,40 @@ parts operand = Lev E12 ∷ []
 parts constant = Tok Constants ∷ []
 parts column = Tok Names ∷ []
 parts typed_constant = Tok Names ∷ tok k.String ∷ []
-parts called_empty = Tok Names ∷ tok k.Open ∷ tok k.Close ∷ []
-parts called = Tok Names ∷ tok k.Open ∷ Lev Args ∷ tok k.Close ∷ []
-parts paren = tok k.Open ∷ Lev E0 ∷ tok k.Close ∷ []
-parts cast_as = tok k.Cast ∷ tok k.Open ∷ Lev E0 ∷ tok k.As ∷ Lev Full ∷ tok k.Close ∷ []
-parts cases = tok k.Case ∷ Lev Arms ∷ tok k.End ∷ []
-parts cases_else = tok k.Case ∷ Lev Arms ∷ tok k.Else ∷ Lev E0 ∷ tok k.End ∷ []
-parts cases_of = tok k.Case ∷ Lev E0 ∷ Lev Arms ∷ tok k.End ∷ []
-parts cases_of_else = tok k.Case ∷ Lev E0 ∷ Lev Arms ∷ tok k.Else ∷ Lev E0 ∷ tok k.End ∷ []
-parts selection = Tok Selections ∷ tok k.Open ∷ Lev Shown ∷ tok k.Close ∷ []
-parts nullif = tok k.Nullif ∷ tok k.Open ∷ Lev E0 ∷ tok k.Comma ∷ Lev E0 ∷ tok k.Close ∷ []
-parts array_empty = tok k.Array ∷ tok k.OpenBracket ∷ tok k.CloseBracket ∷ []
-parts array = tok k.Array ∷ tok k.OpenBracket ∷ Lev Shown ∷ tok k.CloseBracket ∷ []
-parts position = tok k.Position ∷ tok k.Open ∷ Lev E6 ∷ tok k.In ∷ Lev E6 ∷ tok k.Close ∷ []
-parts substring_one = tok k.Substring ∷ tok k.Open ∷ Lev E0 ∷ tok k.Close ∷ []
-parts substring_more = tok k.Substring ∷ tok k.Open ∷ Lev E0 ∷ tok k.Comma ∷ Lev Shown ∷ tok k.Close ∷ []
-parts substring_from = tok k.Substring ∷ tok k.Open ∷ Lev E0 ∷ tok k.From ∷ Lev E0 ∷ tok k.Close ∷ []
-parts substring_from_for = tok k.Substring ∷ tok k.Open ∷ Lev E0 ∷ tok k.From ∷ Lev E0 ∷ tok k.For ∷ Lev E0 ∷ tok k.Close ∷ []
-parts substring_for = tok k.Substring ∷ tok k.Open ∷ Lev E0 ∷ tok k.For ∷ Lev E0 ∷ tok k.Close ∷ []
-parts trim_from = tok k.Trim ∷ tok k.Open ∷ tok k.From ∷ Lev E0 ∷ tok k.Close ∷ []
-parts trim_set_from = tok k.Trim ∷ tok k.Open ∷ Lev E0 ∷ tok k.From ∷ Lev E0 ∷ tok k.Close ∷ []
-parts trim_side_from = tok k.Trim ∷ tok k.Open ∷ Tok Sides ∷ tok k.From ∷ Lev E0 ∷ tok k.Close ∷ []
-parts trim_side_set_from = tok k.Trim ∷ tok k.Open ∷ Tok Sides ∷ Lev E0 ∷ tok k.From ∷ Lev E0 ∷ tok k.Close ∷ []
-parts trim = tok k.Trim ∷ tok k.Open ∷ Lev E0 ∷ tok k.Close ∷ []
-parts trim_set = tok k.Trim ∷ tok k.Open ∷ Lev E0 ∷ tok k.Comma ∷ Lev E0 ∷ tok k.Close ∷ []
-parts trim_side = tok k.Trim ∷ tok k.Open ∷ Tok Sides ∷ Lev E0 ∷ tok k.Close ∷ []
-parts trim_side_set = tok k.Trim ∷ tok k.Open ∷ Tok Sides ∷ Lev E0 ∷ tok k.Comma ∷ Lev E0 ∷ tok k.Close ∷ []
-parts extract = tok k.Extract ∷ tok k.Open ∷ Tok Fields ∷ tok k.From ∷ Lev E0 ∷ tok k.Close ∷ []
+parts called_empty = Tok Names ∷ mark m.OpenParen ∷ mark m.CloseParen ∷ []
+parts called = Tok Names ∷ mark m.OpenParen ∷ Lev Args ∷ mark m.CloseParen ∷ []
+parts paren = mark m.OpenParen ∷ Lev E0 ∷ mark m.CloseParen ∷ []
+parts cast_as = word w.Cast ∷ mark m.OpenParen ∷ Lev E0 ∷ word w.As ∷ Lev Full ∷ mark m.CloseParen ∷ []
+parts cases = word w.Case ∷ Lev Arms ∷ word w.End ∷ []
+parts cases_else = word w.Case ∷ Lev Arms ∷ word w.Else ∷ Lev E0 ∷ word w.End ∷ []
+parts cases_of = word w.Case ∷ Lev E0 ∷ Lev Arms ∷ word w.End ∷ []
+parts cases_of_else = word w.Case ∷ Lev E0 ∷ Lev Arms ∷ word w.Else ∷ Lev E0 ∷ word w.End ∷ []
+parts selection = Tok Selections ∷ mark m.OpenParen ∷ Lev Shown ∷ mark m.CloseParen ∷ []
+parts nullif = word w.Nullif ∷ mark m.OpenParen ∷ Lev E0 ∷ mark m.Comma ∷ Lev E0 ∷ mark m.CloseParen ∷ []
+parts array_empty = word w.Array ∷ mark m.OpenBracket ∷ mark m.CloseBracket ∷ []
+parts array = word w.Array ∷ mark m.OpenBracket ∷ Lev Shown ∷ mark m.CloseBracket ∷ []
+parts position = word w.Position ∷ mark m.OpenParen ∷ Lev E6 ∷ word w.In ∷ Lev E6 ∷ mark m.CloseParen ∷ []
+parts substring_one = word w.Substring ∷ mark m.OpenParen ∷ Lev E0 ∷ mark m.CloseParen ∷ []
+parts substring_more = word w.Substring ∷ mark m.OpenParen ∷ Lev E0 ∷ mark m.Comma ∷ Lev Shown ∷ mark m.CloseParen ∷ []
+parts substring_from = word w.Substring ∷ mark m.OpenParen ∷ Lev E0 ∷ word w.From ∷ Lev E0 ∷ mark m.CloseParen ∷ []
+parts substring_from_for = word w.Substring ∷ mark m.OpenParen ∷ Lev E0 ∷ word w.From ∷ Lev E0 ∷ word w.For ∷ Lev E0 ∷ mark m.CloseParen ∷ []
+parts substring_for = word w.Substring ∷ mark m.OpenParen ∷ Lev E0 ∷ word w.For ∷ Lev E0 ∷ mark m.CloseParen ∷ []
+parts trim_from = word w.Trim ∷ mark m.OpenParen ∷ word w.From ∷ Lev E0 ∷ mark m.CloseParen ∷ []
+parts trim_set_from = word w.Trim ∷ mark m.OpenParen ∷ Lev E0 ∷ word w.From ∷ Lev E0 ∷ mark m.CloseParen ∷ []
+parts trim_side_from = word w.Trim ∷ mark m.OpenParen ∷ Tok Sides ∷ word w.From ∷ Lev E0 ∷ mark m.CloseParen ∷ []
+parts trim_side_set_from = word w.Trim ∷ mark m.OpenParen ∷ Tok Sides ∷ Lev E0 ∷ word w.From ∷ Lev E0 ∷ mark m.CloseParen ∷ []
+parts trim = word w.Trim ∷ mark m.OpenParen ∷ Lev E0 ∷ mark m.CloseParen ∷ []
+parts trim_set = word w.Trim ∷ mark m.OpenParen ∷ Lev E0 ∷ mark m.Comma ∷ Lev E0 ∷ mark m.CloseParen ∷ []
+parts trim_side = word w.Trim ∷ mark m.OpenParen ∷ Tok Sides ∷ Lev E0 ∷ mark m.CloseParen ∷ []
+parts trim_side_set = word w.Trim ∷ mark m.OpenParen ∷ Tok Sides ∷ Lev E0 ∷ mark m.Comma ∷ Lev E0 ∷ mark m.CloseParen ∷ []
+parts extract = word w.Extract ∷ mark m.OpenParen ∷ Tok Fields ∷ word w.From ∷ Lev E0 ∷ mark m.CloseParen ∷ []
 parts one_arg = Lev E0 ∷ []
-parts variadic = tok k.Variadic ∷ Lev E0 ∷ []
-parts first_arm = tok k.When ∷ Lev E0 ∷ tok k.Then ∷ Lev E0 ∷ []
+parts variadic = word w.Variadic ∷ Lev E0 ∷ []
+parts first_arm = word w.When ∷ Lev E0 ∷ word w.Then ∷ Lev E0 ∷ []
 parts full_basic = Lev Basic ∷ []
 parts basic = Lev Typename ∷ []
-parts basic_sized = Lev Typename ∷ tok k.Open ∷ tok k.Whole ∷ tok k.Close ∷ []
-parts basic_scaled = Lev Typename ∷ tok k.Open ∷ tok k.Whole ∷ tok k.Comma ∷ tok k.Whole ∷ tok k.Close ∷ []
+parts basic_sized = Lev Typename ∷ mark m.OpenParen ∷ tok k.Whole ∷ mark m.CloseParen ∷ []
+parts basic_scaled = Lev Typename ∷ mark m.OpenParen ∷ tok k.Whole ∷ mark m.Comma ∷ tok k.Whole ∷ mark m.CloseParen ∷ []
 parts plain_type = Tok Plains ∷ []
 parts double_type = tok k.Double ∷ []
 parts double_precision = tok k.Double ∷ tok k.Precision ∷ []
@@ -266,30 +275,30 @@ on full_pair = Full
 on full_sized_pair = Full
 
 abbrev pub lead : Tail → Class
-lead union = Only k.Union
-lead next_item = Only k.Comma
-lead next_row = Only k.Comma
-lead next_shown = Only k.Comma
-lead or = Only k.Or
-lead and = Only k.And
+lead union = Only (k.Word w.Union)
+lead next_item = Only (k.Mark m.Comma)
+lead next_row = Only (k.Mark m.Comma)
+lead next_shown = Only (k.Mark m.Comma)
+lead or = Only (k.Word w.Or)
+lead and = Only (k.Word w.And)
 lead other_then = Only k.Other
 lead other_then_prefix = Only k.Other
 lead added = Only k.Sign
 lead multiplied = Only k.Times
 lead raised = Only k.Power
-lead cast = Only k.Typed
-lead empty_brackets = Only k.OpenBracket
-lead brackets = Only k.OpenBracket
-lead next_one = Only k.Comma
-lead next_variadic = Only k.Comma
-lead next_arm = Only k.When
-lead full_pair = Only k.OpenBracket
-lead full_sized_pair = Only k.OpenBracket
+lead cast = Only (k.Mark m.DoubleColon)
+lead empty_brackets = Only (k.Mark m.OpenBracket)
+lead brackets = Only (k.Mark m.OpenBracket)
+lead next_one = Only (k.Mark m.Comma)
+lead next_variadic = Only (k.Mark m.Comma)
+lead next_arm = Only (k.Word w.When)
+lead full_pair = Only (k.Mark m.OpenBracket)
+lead full_sized_pair = Only (k.Mark m.OpenBracket)
 
 abbrev pub rest : Tail → List Sym
-rest union = tok k.All ∷ tok k.Select ∷ Lev Items ∷ []
+rest union = word w.All ∷ word w.Select ∷ Lev Items ∷ []
 rest next_item = Lev Item ∷ []
-rest next_row = tok k.Open ∷ Lev Shown ∷ tok k.Close ∷ []
+rest next_row = mark m.OpenParen ∷ Lev Shown ∷ mark m.CloseParen ∷ []
 rest next_shown = Lev E0 ∷ []
 rest or = Lev E1 ∷ []
 rest and = Lev E2 ∷ []
@@ -299,13 +308,13 @@ rest added = Lev E8 ∷ []
 rest multiplied = Lev E9 ∷ []
 rest raised = Lev E10 ∷ []
 rest cast = Lev Basic ∷ []
-rest empty_brackets = tok k.CloseBracket ∷ []
-rest brackets = Lev E0 ∷ tok k.CloseBracket ∷ []
+rest empty_brackets = mark m.CloseBracket ∷ []
+rest brackets = Lev E0 ∷ mark m.CloseBracket ∷ []
 rest next_one = Lev E0 ∷ []
-rest next_variadic = tok k.Variadic ∷ Lev E0 ∷ []
-rest next_arm = Lev E0 ∷ tok k.Then ∷ Lev E0 ∷ []
-rest full_pair = tok k.CloseBracket ∷ []
-rest full_sized_pair = tok k.Whole ∷ tok k.CloseBracket ∷ []
+rest next_variadic = word w.Variadic ∷ Lev E0 ∷ []
+rest next_arm = Lev E0 ∷ word w.Then ∷ Lev E0 ∷ []
+rest full_pair = mark m.CloseBracket ∷ []
+rest full_sized_pair = tok k.Whole ∷ mark m.CloseBracket ∷ []
 
 -- what stands behind the level in its own line
 abbrev pub turn : Tail → List Sym
@@ -388,13 +397,13 @@ side_of token = side_at token.kind
 
 -- whether letters of any case are alike
 abbrev pub any_case : Token → Bool
-any_case token = same k.Ilike (kind token)
+any_case token = same (kind token) (k.Word w.Ilike)
 
 abbrev pub moment_of : Token → Moment
-moment_of token = if same k.Time (kind token) then moment.Time else moment.Timestamp
+moment_of token = if same (kind token) k.Time then moment.Time else moment.Timestamp
 
 abbrev pub zoned : Token → Moment → TypeName
-zoned token m = if same k.With (kind token) then name.WithTimeZone m else name.WithoutTimeZone m
+zoned token m = if same (kind token) k.With then name.WithTimeZone m else name.WithoutTimeZone m
 
 -- ---- what lines build
 

@@ -58,7 +58,7 @@ pub enum Ast {
     },
     /// A type's name before a string.
     Typed {
-        target: TypeWords,
+        target: Boxed<TypeWords>,
         at: Span,
         text: Txt,
     },
@@ -77,7 +77,7 @@ pub enum Ast {
     Cast {
         at: Span,
         inner: Boxed<Ast>,
-        target: TypeWords,
+        target: Boxed<TypeWords>,
     },
     Case {
         at: Span,

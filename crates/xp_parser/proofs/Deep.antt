@@ -11,7 +11,8 @@ use Rattle.xp_parser.specs.declared.depth.Role.{Role}
 use Rattle.xp_parser.specs.declared.depth.Role.TheVariants.{Plain, Joint, Bracket, Opening, Closing, Divider}
 use Rattle.std.proofs.lemmas.List.{reverse-append}
 use Rattle.xp_parser.specs.declared.depth.Part.{Part}
-use Rattle.xp_parser.specs.Depth.{deepest, divided, with_group, with_joint, nothing, closed, depth_of, left, Groups, step, role_of, groups, start, depth, deep_from, first_deep, added, around}
+use Rattle.xp_parser.specs.Depth.{deepest, divided, with_group, with_joint, nothing, closed, depth_of, left, Groups, step, role_of, groups, start, depth, deep_from, first_deep}
+use Rattle.xp_parser.specs.inner.Counted.{added, around}
 
 -- what is in the innermost group counts with what the groups around it add
 pub closed_is : (p : Part) (ps : List Part) → closed p ps ≡ max (added ps + deepest p) (around ps)

@@ -6,7 +6,7 @@ use Rattle.xp_grammar.specs.Table.{Trees, Given, with_shown}
 use Rattle.xp_grammar.specs.Table.{Level as l}
 use Rattle.xp_grammar.specs.Machine.{◌>>=◌, parse, more}
 use Rattle.xp_grammar.proofs.Straight.{reach, again, parse_straight, more_straight}
-use Rattle.xp_parser.specs.Parts.{more_shown_part, args_part, more_args_part}
+use Rattle.xp_parser.specs.inner.Parts.{more_shown_part, args_part, more_args_part}
 
 pub shown_is : (ts : List Token) → parse l.Shown ts ≡ (parse l.E0 >>= (λ v. more l.Shown (with_shown (Trees []) (v ∷ [])))) ts
 unfolding reach more

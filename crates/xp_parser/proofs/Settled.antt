@@ -10,6 +10,7 @@ use Rattle.xp_grammar.proofs.Complete.{same_head}
 use Rattle.xp_grammar.proofs.Continued.{cut}
 use Rattle.xp_grammar.proofs.Exact.{derived_is_read, read_is_derived, err_is_fault}
 use Rattle.xp_grammar.proofs.Prefix.{begun, fault_is_err}
+use Rattle.xp_grammar.proofs.Built.{statement_built}
 use Rattle.xp_parser.specs.declared.fault.ParseFault.{ParseFault}
 use Rattle.xp_parser.specs.declared.fault.ParseFault.TheVariants.{Syntax, TooDeep, Memory}
 use Rattle.xp_parser.specs.Depth.{depth, first_deep}
@@ -37,14 +38,16 @@ before_last front t before y r e = by (cut front (t ∷ []) before (y ∷ r) e)
     by (inl x) = x
     by (inr (c, p, q)) = none c p q
 
-right_whole : (all : List Token) (o : Result Value ℕ) → first_deep (words all) ≡ None → read (words all) ≡ o → IsRight all (settled all o)
-right_whole all (Ok (Stated s)) e q = IsAnswer.statement s (read_is_derived (words all) (Stated s) q) (first_deep_none (words all) e)
+right_whole : (all : List Token) (o : Result Value ℕ) → first_deep (words all) ≡ None → read (words all) ≡ o → IsAnswer all (settled all o)
+right_whole all (Ok v) e q =
+    let d = read_is_derived (words all) v q in
+    let b = statement_built (words all) v d in
+    subst (λ z. IsAnswer all (settled all (Ok z))) (sym b.1) (IsAnswer.statement b.0 (subst (λ z. IsStatement (words all) z) b.1 d) (first_deep_none (words all) e))
 right_whole all (Err n) e q =
     let f = err_is_fault (words all) n q in
     let place : length f.before ≡ length (words all) - n = omega (arith, ap length f.split, length-append f.before f.after, f.count) in
     let shallow : depth f.before ≤ DEPTH_LIMIT = shorter_shallow f.before f.after (subst (λ z. depth z ≤ DEPTH_LIMIT) f.split (first_deep_none (words all) e)) in
     subst (λ i. IsAnswer all (Err (Syntax (start_at all i)))) place (IsAnswer.syntax f.before f.after f.split f.front f.stuck shallow)
-right_whole all (Ok _) e q = tt
 
 module _ (all front rest : List Token) (t : Token) (i : ℕ) (split : words all ≡ front ++ t ∷ rest) (count : i ≡ length front) (shallow : depth front ≤ DEPTH_LIMIT) (deep : DEPTH_LIMIT < depth (front ++ t ∷ [])) where
   too_deep_here : IsFront (front ++ t ∷ []) → IsAnswer all (Err (TooDeep (start_at all i)))
@@ -63,7 +66,7 @@ module _ (all front rest : List Token) (t : Token) (i : ℕ) (split : words all 
   ends_here before [] e m f = subst IsFront (sym (e ∙ append-nil before)) f
   ends_here before (y ∷ r) e m f = absurd (omega (arith, m))
 
-  right_deep : (o : Result Value ℕ) → read (front ++ t ∷ []) ≡ o → IsRight all (settled_deep all i o)
+  right_deep : (o : Result Value ℕ) → read (front ++ t ∷ []) ≡ o → IsAnswer all (settled_deep all i o)
   right_deep (Ok v) q = too_deep_here (whole_front (front ++ t ∷ []) v (read_is_derived (front ++ t ∷ []) v q))
   right_deep (Err zero) q =
       let f = err_is_fault (front ++ t ∷ []) 0 q in
@@ -72,15 +75,15 @@ module _ (all front rest : List Token) (t : Token) (i : ℕ) (split : words all 
       let f = err_is_fault (front ++ t ∷ []) (suc n) q in
       early n f.before f.after f.split f.count f.front f.stuck
 
-pub parsed_right : (all : List Token) → IsRight all (parsed all)
+pub parsed_exact : (all : List Token) → IsAnswer all (parsed all)
 unfolding parsed depth
-parsed_right all = by (first_deep (words all)) refl
+parsed_exact all = by (first_deep (words all)) refl
   where
-    by : (o : Option ℕ) → first_deep (words all) ≡ o → IsRight all (parsed_by all o)
+    by : (o : Option ℕ) → first_deep (words all) ≡ o → IsAnswer all (parsed_by all o)
     by None e = right_whole all (read (words all)) e refl
     by (Some i) e =
         let d = first_deep_is (words all) i e in
-        subst (λ z. IsRight all (settled_deep all i (read z))) (sym (cut_at (words all) d.front d.rest d.token i d.split d.count))
+        subst (λ z. IsAnswer all (settled_deep all i (read z))) (sym (cut_at (words all) d.front d.rest d.token i d.split d.count))
         (right_deep all d.front d.rest d.token i d.split d.count d.shallow d.deep (read (d.front ++ d.token ∷ [])) refl)
 
 -- ---- what the tokens are is answered
@@ -149,9 +152,9 @@ answer_is all answer (IsAnswer.too_deep before after t e f h deep) =
 -- ---- of what a function returned
 
 pub right_of : (all : List Token) (r : Answer) → Answers r (parsed all) → IsRight all r
-right_of all (Ok s) e = subst (IsRight all) e (parsed_right all)
-right_of all (Err (Syntax at)) e = subst (IsRight all) e (parsed_right all)
-right_of all (Err (TooDeep at)) e = subst (IsRight all) e (parsed_right all)
+right_of all (Ok s) e = subst (IsAnswer all) e (parsed_exact all)
+right_of all (Err (Syntax at)) e = subst (IsAnswer all) e (parsed_exact all)
+right_of all (Err (TooDeep at)) e = subst (IsAnswer all) e (parsed_exact all)
 right_of all (Err Memory) e = tt
 
 pub only_of : (all : List Token) (r : Answer) → Answers r (parsed all) → (answer : Answer) → IsAnswer all answer → Answers r answer

@@ -1,6 +1,7 @@
 -- What is read of a statement outside its expressions, and of a whole list of tokens.
 use Rattle.std.proofs.Common.{◌≡◌, ℕ, ◌<◌, List, [], ◌∷◌, length, slice_get, Option, Some, None, Ok, Err, refl, ap, ◌∙◌, arith}
 use Rattle.xp_token.specs.declared.token.Token.{Token}
+use Rattle.xp_token.specs.declared.words.Word.TheVariants as word
 use Rattle.xp_grammar.specs.declared.kind.Kind.TheVariants as k
 use Rattle.xp_grammar.specs.declared.kind.Class.TheVariants.{Only}
 use Rattle.xp_grammar.specs.declared.ast.Ast.{Ast}
@@ -12,7 +13,7 @@ use Rattle.xp_grammar.specs.Table.{Level as l}
 use Rattle.xp_grammar.specs.Machine.{◌>>=◌, expect, onward, parse, more}
 use Rattle.xp_grammar.specs.Reads.{to_end, read}
 use Rattle.xp_grammar.proofs.Straight.{reach, again, parse_straight, more_straight}
-use Rattle.xp_parser.specs.StatementParts.{item_part, more_items_part, select_then, more_selects_part, rows_part, more_rows_part, store_then, explain_then, statement_part}
+use Rattle.xp_parser.specs.inner.StatementParts.{item_part, more_items_part, select_then, more_selects_part, rows_part, more_rows_part, store_then, explain_then, statement_part}
 
 pub item_is : (ts : List Token) → parse l.Item ts ≡ item_part ts
 unfolding reach onward item_part
@@ -26,7 +27,7 @@ pub more_items : (all : List Item) (ts : List Token) → more l.Items (Labels al
 unfolding reach again more_items_part
 more_items all ts = more_straight l.Items (Labels all) ts
 
-pub selects_is : (ts : List Token) → parse l.Selects ts ≡ (expect (Only k.Select) >>= select_then []) ts
+pub selects_is : (ts : List Token) → parse l.Selects ts ≡ (expect (Only (k.Word word.Select)) >>= select_then []) ts
 unfolding reach more select_then
 selects_is ts = parse_straight l.Selects ts
 

@@ -8,8 +8,7 @@ use Rattle.xp_grammar.specs.declared.kind.Kind.{Kind}
 use Rattle.xp_grammar.specs.Kinds.{kind, has, same}
 use Rattle.xp_grammar.specs.Table.{Level, Value, Word, Tree}
 use Rattle.xp_grammar.specs.Machine.{Outcome, Parser, and_then, ◌>>=◌, pure, expect, eat, taken, after, parse, more}
-use Rattle.xp_parser.specs.Parts.{chain_part}
-use Rattle.xp_parser.specs.Reading.{Eats}
+use Rattle.xp_parser.specs.inner.Reading.{Eats}
 
 -- a token that may be there or not, and makes no difference
 pub skipped : (c : Class) (ts new : List Token) (o : Option (Bor Token)) (p : Parser Value) → Eats (eat c ts) o new → after c (λ t. p) p ts ≡ p new
@@ -37,17 +36,6 @@ expect_same {A = A} c f g ts h = by (expect c ts)
 pub pure_then : {A B C : Type 0} (o : Outcome A) (g : A → B) (f : B → Parser C) → and_then (and_then o (λ a. pure (g a))) f ≡ and_then o (λ a. f (g a))
 pure_then (Ok p) g f = refl
 pure_then (Err n) g f = refl
-
--- one more operand
-pub chain_turn : (c : Class) (inner outer : Level) (join : Value → List Value → Value) (a b e : Ast) (t : Token) (whole : Outcome Value) (ts us r : List Token)
-    → whole ≡ more outer (Tree a) ts → more outer (Tree a) ts ≡ chain_part c inner outer join (Tree a) ts
-    → eat c ts ≡ Ok (Some t, us) → parse inner us ≡ Ok (Tree b, r) → join (Tree a) (Word t ∷ Tree b ∷ []) ≡ Tree e → whole ≡ more outer (Tree e) r
-unfolding chain_part
-chain_turn c inner outer join a b e t whole ts us r same law eaten read built =
-    same ∙ law
-    ∙ ap (λ z. and_then z (taken (λ t'. parse inner >>= (λ w. more outer (join (Tree a) (Word t' ∷ w ∷ [])))) (pure (Tree a)))) eaten
-    ∙ ap (λ z. and_then z (λ w. more outer (join (Tree a) (Word t ∷ w ∷ [])))) read
-    ∙ ap (λ z. more outer z r) built
 
 -- a kind is another where that is this
 pub same_flip : (a b : Kind) → same a b ≡ same b a

@@ -4,7 +4,7 @@ use Rattle.xp_token.specs.declared.token.Token.{Token}
 use Rattle.xp_grammar.specs.Table.{Level as l}
 use Rattle.xp_grammar.specs.Machine.{onward, parse}
 use Rattle.xp_grammar.proofs.Straight.{reach, parse_straight}
-use Rattle.xp_parser.specs.Parts.{not_part, is_end, is_then, test_then, test_part, compared_part, between_then, in_then, like_then, not_range_then, range_then, range_part}
+use Rattle.xp_parser.specs.inner.Parts.{not_part, is_end, is_then, test_then, test_part, compared_part, between_then, in_then, like_then, not_range_then, range_then, range_part}
 
 pub not_is : (ts : List Token) → parse l.E2 ts ≡ not_part ts
 unfolding reach onward not_part

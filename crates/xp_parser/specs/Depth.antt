@@ -4,9 +4,11 @@
 -- A group goes from `(`, `[` or CASE to its `)`, `]` or END. A section is what stands between commas and the words WHEN THEN ELSE UNION directly in a group, or in the whole list.
 -- A section is as deep as the joints directly in it and the deepest group directly in it together; a group is deeper by 1 than its deepest section; a list is as deep as its deepest section.
 -- At the end of a list all open groups are closed, and a closing token where no group is open counts nothing.
-use Rattle.std.specs.Prelude.{ℕ, ◌+◌, max, nat_lt, List, [], ◌∷◌, reverse, Option, Some, None, if◌then◌else◌}
+use Rattle.std.specs.Prelude.{ℕ, ◌+◌, max, nat_lt, List, [], ◌∷◌, Option, Some, None, if◌then◌else◌}
 use Rattle.xp_base.specs.declared.limits.TheConstants.{DEPTH_LIMIT}
 use Rattle.xp_token.specs.declared.token.Token.{Token}
+use Rattle.xp_token.specs.declared.words.Word.TheVariants as word
+use Rattle.xp_token.specs.declared.token.Mark.TheVariants as mark
 use Rattle.xp_grammar.specs.declared.kind.Kind.{Kind}
 use Rattle.xp_grammar.specs.declared.kind.Kind.TheVariants as k
 use Rattle.xp_grammar.specs.Kinds.{kind, same}
@@ -22,28 +24,28 @@ role_of before k.Power = Joint
 role_of before k.Compare = Joint
 role_of before k.Other = Joint
 role_of before k.Arrow = Joint
-role_of before k.Typed = Joint
-role_of before k.And = Joint
-role_of before k.Or = Joint
-role_of before k.Not = Joint
-role_of before k.Is = Joint
-role_of before k.Isnull = Joint
-role_of before k.Notnull = Joint
-role_of before k.Between = Joint
-role_of before k.In = Joint
-role_of before k.Like = Joint
-role_of before k.Ilike = Joint
-role_of before k.OpenBracket = if same before k.Array then Opening else Bracket
-role_of before k.Open = Opening
-role_of before k.Case = Opening
-role_of before k.Close = Closing
-role_of before k.CloseBracket = Closing
-role_of before k.End = Closing
-role_of before k.Comma = Divider
-role_of before k.When = Divider
-role_of before k.Then = Divider
-role_of before k.Else = Divider
-role_of before k.Union = Divider
+role_of before (k.Mark mark.DoubleColon) = Joint
+role_of before (k.Word word.And) = Joint
+role_of before (k.Word word.Or) = Joint
+role_of before (k.Word word.Not) = Joint
+role_of before (k.Word word.Is) = Joint
+role_of before (k.Word word.Isnull) = Joint
+role_of before (k.Word word.Notnull) = Joint
+role_of before (k.Word word.Between) = Joint
+role_of before (k.Word word.In) = Joint
+role_of before (k.Word word.Like) = Joint
+role_of before (k.Word word.Ilike) = Joint
+role_of before (k.Mark mark.OpenBracket) = if same before (k.Word word.Array) then Opening else Bracket
+role_of before (k.Mark mark.OpenParen) = Opening
+role_of before (k.Word word.Case) = Opening
+role_of before (k.Mark mark.CloseParen) = Closing
+role_of before (k.Mark mark.CloseBracket) = Closing
+role_of before (k.Word word.End) = Closing
+role_of before (k.Mark mark.Comma) = Divider
+role_of before (k.Word word.When) = Divider
+role_of before (k.Word word.Then) = Divider
+role_of before (k.Word word.Else) = Divider
+role_of before (k.Word word.Union) = Divider
 role_of before _ = Plain
 
 -- a part of a group: the joints of its last section, the deepest group in that section, and the deepest of the sections before
@@ -107,19 +109,3 @@ deep_from at before g (t ∷ ts) =
 
 unfoldable pub first_deep : List Token → Option ℕ
 first_deep ts = deep_from 0 k.Nothing start ts
-
--- ---- what the code keeps
-
--- how much the groups around the innermost add to what is in it
-abbrev pub added : List Part → ℕ
-added [] = 0
-added (q ∷ qs) = added qs + q.joints + 1
-
--- the groups, the outermost part first
-abbrev pub seen : Part → List Part → Groups
-seen part outer = record { part = part; outer = reverse outer }
-
--- how deep the list is without the innermost group
-abbrev pub around : List Part → ℕ
-around [] = 0
-around (q ∷ qs) = closed q qs

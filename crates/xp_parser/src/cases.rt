@@ -2,9 +2,9 @@
 ghost use Rattle.std.specs.Prelude.{◌≤◌, ◌<◌, length};
 ghost use Rattle.xp_grammar.specs.Machine.{parse};
 ghost use Rattle.xp_grammar.specs.Table.{Level, Tree, Cases, at, case_of};
-ghost use Rattle.xp_parser.specs.Nests.{Nests};
-ghost use Rattle.xp_parser.specs.Parts as part;
-ghost use Rattle.xp_parser.specs.Reading.{Reads};
+ghost use Rattle.xp_parser.specs.inner.Nests.{Nests};
+ghost use Rattle.xp_parser.specs.inner.Parts as part;
+ghost use Rattle.xp_parser.specs.inner.Reading.{Reads};
 
 use crate::cursor::Cursor;
 use crate::grammar::{Grammar, Nested};
@@ -12,11 +12,11 @@ use crate::parse_error::ParseError;
 use sqlite_items::{Boxed, Items};
 use std::alloc::Global;
 use xp_grammar::{Arm, Ast, Class, Kind};
-use xp_token::Token;
+use xp_token::{Token, Word};
 
 impl<F: Fn(Global, Nested, &mut Cursor<'_>) -> Result<Boxed<Ast>, ParseError>> Grammar<F> {
     /// Behind the word CASE.
-    #[tactic(auto, using(xp_grammar::proofs::Turns::parse_less, crate::proofs::PrimaryLaws::starts_arms), unfolding(crate::specs::Parts::case_then))]
+    #[tactic(auto, using(xp_grammar::proofs::Turns::parse_less, crate::proofs::PrimaryLaws::starts_arms), unfolding(crate::specs::inner::Parts::case_then))]
     pub(crate) fn cases(
         &self,
         tokens: &mut Cursor<'_>,
@@ -26,7 +26,7 @@ impl<F: Fn(Global, Nested, &mut Cursor<'_>) -> Result<Boxed<Ast>, ParseError>> G
         requires fewer { length tokens.old < self.now.room }
         ensures { Reads Tree (part.case_then word.now tokens.old) result tokens.new }
     {
-        if tokens.sees(Kind::When) {
+        if tokens.sees(Kind::Word(Word::When)) {
             let arms = self.arms(tokens)?;
             return self.case_end(tokens, word, None, arms);
         }
@@ -36,24 +36,24 @@ impl<F: Fn(Global, Nested, &mut Cursor<'_>) -> Result<Boxed<Ast>, ParseError>> G
     }
 
     /// One WHEN with its THEN or more.
-    #[tactic(auto, using(crate::proofs::PrimaryLaws::arms_is, crate::proofs::PrimaryLaws::more_arms), unfolding(crate::specs::Parts::arm_then, crate::specs::Parts::more_arms_part))]
+    #[tactic(auto, using(crate::proofs::PrimaryLaws::arms_is, crate::proofs::PrimaryLaws::more_arms), unfolding(crate::specs::inner::Parts::arm_then, crate::specs::inner::Parts::more_arms_part))]
     fn arms(&self, tokens: &mut Cursor<'_>) -> Result<Items<Arm>, ParseError>
         requires nests { Nests self.now.room (F.pre self.now.nested) (F.post self.now.nested) }
         requires fewer { length tokens.old ≤ self.now.room }
         ensures { Reads Cases (parse Level.Arms tokens.old) result tokens.new }
     {
         let mut arms = Items::new(self.alloc);
-        let mut word = tokens.expect(Class::Only(Kind::When))?;
+        let mut word = tokens.expect(Class::Only(Kind::Word(Word::When)))?;
         'arms: loop {
             let when = self.expr(tokens)?;
-            tokens.expect(Class::Only(Kind::Then))?;
+            tokens.expect(Class::Only(Kind::Word(Word::Then)))?;
             let gives = self.expr(tokens)?;
             arms.push(Arm {
                 at: word.span,
                 when: when.into_inner(),
                 gives: gives.into_inner(),
             })?;
-            match tokens.eat(Class::Only(Kind::When)) {
+            match tokens.eat(Class::Only(Kind::Word(Word::When))) {
                 Some(next) => word = next,
                 None => return Ok(arms),
             }
@@ -61,7 +61,7 @@ impl<F: Fn(Global, Nested, &mut Cursor<'_>) -> Result<Boxed<Ast>, ParseError>> G
     }
 
     /// Behind the last THEN and what it gives.
-    #[tactic(auto, unfolding(crate::specs::Parts::end_then))]
+    #[tactic(auto, unfolding(crate::specs::inner::Parts::end_then))]
     fn case_end(
         &self,
         tokens: &mut Cursor<'_>,
@@ -74,11 +74,11 @@ impl<F: Fn(Global, Nested, &mut Cursor<'_>) -> Result<Boxed<Ast>, ParseError>> G
         ensures { Reads Tree (part.end_then (case_of (at word.now) operand) (Cases arms) tokens.old) result tokens.new }
     {
         let at = word.span;
-        let otherwise = match tokens.eat(Class::Only(Kind::Else)) {
+        let otherwise = match tokens.eat(Class::Only(Kind::Word(Word::Else))) {
             Some(_) => Some(self.expr(tokens)?),
             None => None,
         };
-        tokens.expect(Class::Only(Kind::End))?;
+        tokens.expect(Class::Only(Kind::Word(Word::End)))?;
         Ok(Boxed::new(
             self.alloc,
             Ast::Case {

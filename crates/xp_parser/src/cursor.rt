@@ -2,7 +2,7 @@
 ghost use Rattle.std.specs.Prelude.{◌≡◌, ◌<◌, length, IfOk, MatchOption};
 ghost use Rattle.xp_grammar.specs.Kinds.{ahead, same};
 ghost use Rattle.xp_grammar.specs.Machine as machine;
-ghost use Rattle.xp_parser.specs.Reading.{Eats, Reads, seen};
+ghost use Rattle.xp_parser.specs.inner.Reading.{Eats, Reads, seen};
 
 use crate::parse_error::ParseError;
 use std::marker::Model;
@@ -46,8 +46,8 @@ impl<'a> Cursor<'a> {
         ensures { result ≡ same (ahead self.now) kind }
     {
         match self.rest {
-            [first, ..] => token_kind(first).is(kind),
-            [] => Kind::Nothing.is(kind),
+            [first, ..] => token_kind(first) == kind,
+            [] => Kind::Nothing == kind,
         }
     }
 

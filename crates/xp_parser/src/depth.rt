@@ -1,12 +1,13 @@
 //! How deep a list of tokens is, read once from the left.
 ghost use Rattle.std.specs.Prelude.{◌≡◌, ◌+◌, ◌≤◌, ◌<◌, [], length, reverse, IfOk, IfSome, MatchOption};
 ghost use Rattle.xp_parser.specs.Depth as spec;
+ghost use Rattle.xp_parser.specs.inner.Counted as kept;
 ghost use Rattle.xp_base.specs.declared.limits.TheConstants.{DEPTH_LIMIT};
 
 use std::alloc::{AllocError, Global};
 use xp_base::DEPTH_LIMIT;
 use xp_grammar::{Kind, token_kind};
-use xp_token::Token;
+use xp_token::{Mark, Token, Word};
 
 /// What a token does to the depth.
 #[derive(Clone, Copy, Debug)]
@@ -47,9 +48,9 @@ struct Groups {
     outer: Vec<Part>,
     /// How much these add to the depth of the part.
     above: u32,
-    ghost counted: { above ≡ spec.added (reverse outer.items) },
+    ghost counted: { above ≡ kept.added (reverse outer.items) },
     ghost fits: { above + spec.deepest part ≤ DEPTH_LIMIT },
-    ghost around: { spec.around (reverse outer.items) ≤ DEPTH_LIMIT },
+    ghost around: { kept.around (reverse outer.items) ≤ DEPTH_LIMIT },
 }
 
 /// What a token of this kind does, where a token of the other kind stands before it.
@@ -63,27 +64,30 @@ fn role_of(before: Kind, kind: Kind) -> Role
         | Kind::Compare
         | Kind::Other
         | Kind::Arrow
-        | Kind::Typed
-        | Kind::And
-        | Kind::Or
-        | Kind::Not
-        | Kind::Is
-        | Kind::Isnull
-        | Kind::Notnull
-        | Kind::Between
-        | Kind::In
-        | Kind::Like
-        | Kind::Ilike => Role::Joint,
-        Kind::Open | Kind::Case => Role::Opening,
-        Kind::OpenBracket => {
-            if before.is(Kind::Array) {
+        | Kind::Mark(Mark::DoubleColon)
+        | Kind::Word(
+            Word::And
+            | Word::Or
+            | Word::Not
+            | Word::Is
+            | Word::Isnull
+            | Word::Notnull
+            | Word::Between
+            | Word::In
+            | Word::Like
+            | Word::Ilike,
+        ) => Role::Joint,
+        Kind::Mark(Mark::OpenParen) | Kind::Word(Word::Case) => Role::Opening,
+        Kind::Mark(Mark::OpenBracket) => {
+            if before == Kind::Word(Word::Array) {
                 Role::Opening
             } else {
                 Role::Bracket
             }
         }
-        Kind::Close | Kind::CloseBracket | Kind::End => Role::Closing,
-        Kind::Comma | Kind::When | Kind::Then | Kind::Else | Kind::Union => Role::Divider,
+        Kind::Mark(Mark::CloseParen | Mark::CloseBracket) | Kind::Word(Word::End) => Role::Closing,
+        Kind::Mark(Mark::Comma) | Kind::Word(Word::When | Word::Then | Word::Else | Word::Union) =>
+            Role::Divider,
         _ => Role::Plain,
     }
 }
@@ -129,10 +133,10 @@ impl Part {
 /// The groups, where they aren't too deep.
 #[tactic(auto, using(crate::proofs::Deep::closed_is))]
 fn within(part: Part, outer: Vec<Part>, above: u32) -> Option<Groups>
-    requires counted { above ≡ spec.added (reverse outer.items) }
-    requires around { spec.around (reverse outer.items) ≤ DEPTH_LIMIT }
+    requires counted { above ≡ kept.added (reverse outer.items) }
+    requires around { kept.around (reverse outer.items) ≤ DEPTH_LIMIT }
     requires small { above + spec.deepest part ≤ 1000 }
-    ensures { MatchOption result (DEPTH_LIMIT < spec.depth_of (spec.seen part outer.items)) (λ g. spec.seen g.part g.outer.items ≡ spec.seen part outer.items) }
+    ensures { MatchOption result (DEPTH_LIMIT < spec.depth_of (kept.seen part outer.items)) (λ g. kept.seen g.part g.outer.items ≡ kept.seen part outer.items) }
 {
     if above + part.deepest() > DEPTH_LIMIT {
         None
@@ -144,7 +148,7 @@ fn within(part: Part, outer: Vec<Part>, above: u32) -> Option<Groups>
 impl Groups {
     /// The whole list alone.
     fn new(alloc: Global) -> Groups
-        ensures { spec.seen result.part result.outer.items ≡ spec.start }
+        ensures { kept.seen result.part result.outer.items ≡ spec.start }
     {
         Groups {
             part: NOTHING,
@@ -156,8 +160,8 @@ impl Groups {
     /// With a joint more, where they aren't too deep.
     fn joined(self) -> Option<Groups>
         ensures { MatchOption result
-            (DEPTH_LIMIT < spec.depth_of (spec.step Role.Joint (spec.seen self.part self.outer.items)))
-            (λ g. spec.seen g.part g.outer.items ≡ spec.step Role.Joint (spec.seen self.part self.outer.items)) }
+            (DEPTH_LIMIT < spec.depth_of (spec.step Role.Joint (kept.seen self.part self.outer.items)))
+            (λ g. kept.seen g.part g.outer.items ≡ spec.step Role.Joint (kept.seen self.part self.outer.items)) }
     {
         let Groups { part, outer, above } = self;
         within(part.with_joint(), outer, above)
@@ -166,8 +170,8 @@ impl Groups {
     /// With a group more, where they aren't too deep.
     fn entered(self) -> Result<Option<Groups>, AllocError>
         ensures { IfOk result (λ entered. MatchOption entered
-            (DEPTH_LIMIT < spec.depth_of (spec.step Role.Opening (spec.seen self.part self.outer.items)))
-            (λ g. spec.seen g.part g.outer.items ≡ spec.step Role.Opening (spec.seen self.part self.outer.items))) }
+            (DEPTH_LIMIT < spec.depth_of (spec.step Role.Opening (kept.seen self.part self.outer.items)))
+            (λ g. kept.seen g.part g.outer.items ≡ spec.step Role.Opening (kept.seen self.part self.outer.items))) }
     {
         let Groups {
             part,
@@ -181,7 +185,7 @@ impl Groups {
     /// Behind the innermost group.
     #[tactic(auto, using(crate::proofs::Deep::around_pushed, crate::proofs::Deep::added_pushed))]
     fn left(self) -> Groups
-        ensures { spec.seen result.part result.outer.items ≡ spec.step Role.Closing (spec.seen self.part self.outer.items) }
+        ensures { kept.seen result.part result.outer.items ≡ spec.step Role.Closing (kept.seen self.part self.outer.items) }
     {
         let Groups {
             part,
@@ -200,7 +204,7 @@ impl Groups {
 
     /// Behind the last section.
     fn divided(self) -> Groups
-        ensures { spec.seen result.part result.outer.items ≡ spec.step Role.Divider (spec.seen self.part self.outer.items) }
+        ensures { kept.seen result.part result.outer.items ≡ spec.step Role.Divider (kept.seen self.part self.outer.items) }
     {
         let Groups { part, outer, above } = self;
         Groups {
@@ -213,8 +217,8 @@ impl Groups {
     /// The groups behind a token that does this, where they aren't too deep.
     fn read(self, role: Role) -> Result<Option<Groups>, AllocError>
         ensures { IfOk result (λ read. MatchOption read
-            (DEPTH_LIMIT < spec.depth_of (spec.step role (spec.seen self.part self.outer.items)))
-            (λ g. spec.seen g.part g.outer.items ≡ spec.step role (spec.seen self.part self.outer.items))) }
+            (DEPTH_LIMIT < spec.depth_of (spec.step role (kept.seen self.part self.outer.items)))
+            (λ g. kept.seen g.part g.outer.items ≡ spec.step role (kept.seen self.part self.outer.items))) }
     {
         match role {
             Role::Plain => Ok(Some(self)),

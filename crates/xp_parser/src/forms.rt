@@ -1,9 +1,9 @@
 //! The forms with words within their brackets (manual 9.4, 9.9.1, 9.18.3 and 4.2.12).
 ghost use Rattle.std.specs.Prelude.{◌≤◌, ◌<◌, length};
 ghost use Rattle.xp_grammar.specs.Table.{Tree};
-ghost use Rattle.xp_parser.specs.Nests.{Nests};
-ghost use Rattle.xp_parser.specs.Parts as part;
-ghost use Rattle.xp_parser.specs.Reading.{Reads};
+ghost use Rattle.xp_parser.specs.inner.Nests.{Nests};
+ghost use Rattle.xp_parser.specs.inner.Parts as part;
+ghost use Rattle.xp_parser.specs.inner.Reading.{Reads};
 
 use crate::cursor::Cursor;
 use crate::grammar::{Grammar, Nested};
@@ -13,97 +13,97 @@ use sqlite_items::{Boxed, Items};
 use std::alloc::Global;
 use xp_base::Span;
 use xp_grammar::{Ast, Class, Kind, Side};
-use xp_token::Token;
+use xp_token::{Mark, Token, Word};
 
 impl<F: Fn(Global, Nested, &mut Cursor<'_>) -> Result<Boxed<Ast>, ParseError>> Grammar<F> {
     /// NULLIF, ARRAY, POSITION, SUBSTRING, TRIM or EXTRACT.
-    #[tactic(auto, unfolding(crate::specs::Parts::forms_part))]
+    #[tactic(auto, unfolding(crate::specs::inner::Parts::forms_part))]
     pub(crate) fn form(&self, tokens: &mut Cursor<'_>) -> Result<Boxed<Ast>, ParseError>
         requires nests { Nests self.now.room (F.pre self.now.nested) (F.post self.now.nested) }
         requires fewer { length tokens.old ≤ self.now.room }
         ensures { Reads Tree (part.forms_part tokens.old) result tokens.new }
     {
-        if let Some(word) = tokens.eat(Class::Only(Kind::Nullif)) {
+        if let Some(word) = tokens.eat(Class::Only(Kind::Word(Word::Nullif))) {
             return self.nullif(tokens, word);
         }
-        if let Some(word) = tokens.eat(Class::Only(Kind::Array)) {
+        if let Some(word) = tokens.eat(Class::Only(Kind::Word(Word::Array))) {
             return self.array(tokens, word);
         }
-        if let Some(word) = tokens.eat(Class::Only(Kind::Position)) {
+        if let Some(word) = tokens.eat(Class::Only(Kind::Word(Word::Position))) {
             return self.position(tokens, word);
         }
-        if let Some(word) = tokens.eat(Class::Only(Kind::Substring)) {
+        if let Some(word) = tokens.eat(Class::Only(Kind::Word(Word::Substring))) {
             return self.substring(tokens, word);
         }
-        if let Some(word) = tokens.eat(Class::Only(Kind::Trim)) {
+        if let Some(word) = tokens.eat(Class::Only(Kind::Word(Word::Trim))) {
             return self.trim(tokens, word);
         }
-        let word = tokens.expect(Class::Only(Kind::Extract))?;
+        let word = tokens.expect(Class::Only(Kind::Word(Word::Extract)))?;
         self.extract(tokens, word)
     }
 
     /// Behind the word NULLIF.
-    #[tactic(auto, unfolding(crate::specs::Parts::nullif_then))]
+    #[tactic(auto, unfolding(crate::specs::inner::Parts::nullif_then))]
     fn nullif(&self, tokens: &mut Cursor<'_>, word: &Token) -> Result<Boxed<Ast>, ParseError>
         requires nests { Nests self.now.room (F.pre self.now.nested) (F.post self.now.nested) }
         requires fewer { length tokens.old < self.now.room }
         ensures { Reads Tree (part.nullif_then word.now tokens.old) result tokens.new }
     {
-        tokens.expect(Class::Only(Kind::Open))?;
+        tokens.expect(Class::Only(Kind::Mark(Mark::OpenParen)))?;
         let left = self.expr(tokens)?;
-        tokens.expect(Class::Only(Kind::Comma))?;
+        tokens.expect(Class::Only(Kind::Mark(Mark::Comma)))?;
         let right = self.expr(tokens)?;
-        tokens.expect(Class::Only(Kind::Close))?;
+        tokens.expect(Class::Only(Kind::Mark(Mark::CloseParen)))?;
         let at = word.span;
         Ok(Boxed::new(self.alloc, Ast::NullIf { at, left, right })?)
     }
 
     /// Behind the word ARRAY.
-    #[tactic(auto, unfolding(crate::specs::Parts::array_then))]
+    #[tactic(auto, unfolding(crate::specs::inner::Parts::array_then))]
     fn array(&self, tokens: &mut Cursor<'_>, word: &Token) -> Result<Boxed<Ast>, ParseError>
         requires nests { Nests self.now.room (F.pre self.now.nested) (F.post self.now.nested) }
         requires fewer { length tokens.old < self.now.room }
         ensures { Reads Tree (part.array_then word.now tokens.old) result tokens.new }
     {
         let at = word.span;
-        tokens.expect(Class::Only(Kind::OpenBracket))?;
-        if let Some(_) = tokens.eat(Class::Only(Kind::CloseBracket)) {
+        tokens.expect(Class::Only(Kind::Mark(Mark::OpenBracket)))?;
+        if let Some(_) = tokens.eat(Class::Only(Kind::Mark(Mark::CloseBracket))) {
             let elements = Items::new(self.alloc);
             return Ok(Boxed::new(self.alloc, Ast::Array { at, elements })?);
         }
         let elements = self.list(tokens)?;
-        tokens.expect(Class::Only(Kind::CloseBracket))?;
+        tokens.expect(Class::Only(Kind::Mark(Mark::CloseBracket)))?;
         Ok(Boxed::new(self.alloc, Ast::Array { at, elements })?)
     }
 
     /// Behind the word POSITION.
-    #[tactic(auto, unfolding(crate::specs::Parts::position_then))]
+    #[tactic(auto, unfolding(crate::specs::inner::Parts::position_then))]
     fn position(&self, tokens: &mut Cursor<'_>, word: &Token) -> Result<Boxed<Ast>, ParseError>
         requires nests { Nests self.now.room (F.pre self.now.nested) (F.post self.now.nested) }
         requires fewer { length tokens.old < self.now.room }
         ensures { Reads Tree (part.position_then word.now tokens.old) result tokens.new }
     {
-        tokens.expect(Class::Only(Kind::Open))?;
+        tokens.expect(Class::Only(Kind::Mark(Mark::OpenParen)))?;
         let part = self.operation(tokens)?;
-        tokens.expect(Class::Only(Kind::In))?;
+        tokens.expect(Class::Only(Kind::Word(Word::In)))?;
         let whole = self.operation(tokens)?;
-        tokens.expect(Class::Only(Kind::Close))?;
+        tokens.expect(Class::Only(Kind::Mark(Mark::CloseParen)))?;
         let at = word.span;
         Ok(Boxed::new(self.alloc, Ast::Position { at, part, whole })?)
     }
 
     /// Behind the word EXTRACT.
-    #[tactic(auto, unfolding(crate::specs::Parts::extract_then))]
+    #[tactic(auto, unfolding(crate::specs::inner::Parts::extract_then))]
     fn extract(&self, tokens: &mut Cursor<'_>, word: &Token) -> Result<Boxed<Ast>, ParseError>
         requires nests { Nests self.now.room (F.pre self.now.nested) (F.post self.now.nested) }
         requires fewer { length tokens.old < self.now.room }
         ensures { Reads Tree (part.extract_then word.now tokens.old) result tokens.new }
     {
-        tokens.expect(Class::Only(Kind::Open))?;
+        tokens.expect(Class::Only(Kind::Mark(Mark::OpenParen)))?;
         let named = tokens.expect(Class::Fields)?;
-        tokens.expect(Class::Only(Kind::From))?;
+        tokens.expect(Class::Only(Kind::Word(Word::From)))?;
         let source = self.expr(tokens)?;
-        tokens.expect(Class::Only(Kind::Close))?;
+        tokens.expect(Class::Only(Kind::Mark(Mark::CloseParen)))?;
         let at = word.span;
         let field_at = named.span;
         let field = held::text(self.alloc, named)?;
@@ -119,24 +119,24 @@ impl<F: Fn(Global, Nested, &mut Cursor<'_>) -> Result<Boxed<Ast>, ParseError>> G
     }
 
     /// Behind the word SUBSTRING.
-    #[tactic(auto, unfolding(crate::specs::Parts::substring_then))]
+    #[tactic(auto, unfolding(crate::specs::inner::Parts::substring_then))]
     fn substring(&self, tokens: &mut Cursor<'_>, word: &Token) -> Result<Boxed<Ast>, ParseError>
         requires nests { Nests self.now.room (F.pre self.now.nested) (F.post self.now.nested) }
         requires fewer { length tokens.old < self.now.room }
         ensures { Reads Tree (part.substring_then word.now tokens.old) result tokens.new }
     {
-        tokens.expect(Class::Only(Kind::Open))?;
+        tokens.expect(Class::Only(Kind::Mark(Mark::OpenParen)))?;
         let text = self.expr(tokens)?;
-        if let Some(_) = tokens.eat(Class::Only(Kind::Comma)) {
+        if let Some(_) = tokens.eat(Class::Only(Kind::Mark(Mark::Comma))) {
             return self.substring_listed(tokens, word, text);
         }
-        if let Some(_) = tokens.eat(Class::Only(Kind::From)) {
+        if let Some(_) = tokens.eat(Class::Only(Kind::Word(Word::From))) {
             return self.substring_from(tokens, word, text);
         }
-        if let Some(_) = tokens.eat(Class::Only(Kind::For)) {
+        if let Some(_) = tokens.eat(Class::Only(Kind::Word(Word::For))) {
             return self.substring_for(tokens, word, text);
         }
-        tokens.expect(Class::Only(Kind::Close))?;
+        tokens.expect(Class::Only(Kind::Mark(Mark::CloseParen)))?;
         let mut args = Items::new(self.alloc);
         args.push(text.into_inner())?;
         let at = word.span;
@@ -144,7 +144,7 @@ impl<F: Fn(Global, Nested, &mut Cursor<'_>) -> Result<Boxed<Ast>, ParseError>> G
     }
 
     /// Behind the first comma of SUBSTRING.
-    #[tactic(auto, unfolding(crate::specs::Parts::listed_then))]
+    #[tactic(auto, unfolding(crate::specs::inner::Parts::listed_then))]
     fn substring_listed(
         &self,
         tokens: &mut Cursor<'_>,
@@ -158,14 +158,14 @@ impl<F: Fn(Global, Nested, &mut Cursor<'_>) -> Result<Boxed<Ast>, ParseError>> G
         let mut args = Items::new(self.alloc);
         args.push(text.into_inner())?;
         let others = self.list(tokens)?;
-        tokens.expect(Class::Only(Kind::Close))?;
+        tokens.expect(Class::Only(Kind::Mark(Mark::CloseParen)))?;
         args.append(others)?;
         let at = word.span;
         Ok(Boxed::new(self.alloc, Ast::Substring { at, args })?)
     }
 
     /// Behind the word FROM of SUBSTRING.
-    #[tactic(auto, unfolding(crate::specs::Parts::begun_then))]
+    #[tactic(auto, unfolding(crate::specs::inner::Parts::begun_then))]
     fn substring_from(
         &self,
         tokens: &mut Cursor<'_>,
@@ -177,11 +177,11 @@ impl<F: Fn(Global, Nested, &mut Cursor<'_>) -> Result<Boxed<Ast>, ParseError>> G
         ensures { Reads Tree (part.begun_then word.now (Tree text) tokens.old) result tokens.new }
     {
         let from = Some(self.expr(tokens)?);
-        let length = match tokens.eat(Class::Only(Kind::For)) {
+        let length = match tokens.eat(Class::Only(Kind::Word(Word::For))) {
             Some(_) => Some(self.expr(tokens)?),
             None => None,
         };
-        tokens.expect(Class::Only(Kind::Close))?;
+        tokens.expect(Class::Only(Kind::Mark(Mark::CloseParen)))?;
         let at = word.span;
         Ok(Boxed::new(
             self.alloc,
@@ -195,7 +195,7 @@ impl<F: Fn(Global, Nested, &mut Cursor<'_>) -> Result<Boxed<Ast>, ParseError>> G
     }
 
     /// Behind the word FOR of SUBSTRING without FROM.
-    #[tactic(auto, unfolding(crate::specs::Parts::ended_then))]
+    #[tactic(auto, unfolding(crate::specs::inner::Parts::ended_then))]
     fn substring_for(
         &self,
         tokens: &mut Cursor<'_>,
@@ -208,7 +208,7 @@ impl<F: Fn(Global, Nested, &mut Cursor<'_>) -> Result<Boxed<Ast>, ParseError>> G
     {
         let from = None;
         let length = Some(self.expr(tokens)?);
-        tokens.expect(Class::Only(Kind::Close))?;
+        tokens.expect(Class::Only(Kind::Mark(Mark::CloseParen)))?;
         let at = word.span;
         Ok(Boxed::new(
             self.alloc,
@@ -222,13 +222,13 @@ impl<F: Fn(Global, Nested, &mut Cursor<'_>) -> Result<Boxed<Ast>, ParseError>> G
     }
 
     /// Behind the word TRIM.
-    #[tactic(auto, unfolding(crate::specs::Parts::trim_then))]
+    #[tactic(auto, unfolding(crate::specs::inner::Parts::trim_then))]
     fn trim(&self, tokens: &mut Cursor<'_>, word: &Token) -> Result<Boxed<Ast>, ParseError>
         requires nests { Nests self.now.room (F.pre self.now.nested) (F.post self.now.nested) }
         requires fewer { length tokens.old < self.now.room }
         ensures { Reads Tree (part.trim_then word.now tokens.old) result tokens.new }
     {
-        tokens.expect(Class::Only(Kind::Open))?;
+        tokens.expect(Class::Only(Kind::Mark(Mark::OpenParen)))?;
         match tokens.eat(Class::Sides) {
             Some(side) => self.trim_side(tokens, word.span, Some(held::side(side))),
             None => self.trim_side(tokens, word.span, None),
@@ -236,7 +236,7 @@ impl<F: Fn(Global, Nested, &mut Cursor<'_>) -> Result<Boxed<Ast>, ParseError>> G
     }
 
     /// Behind the side of TRIM, or where it would stand.
-    #[tactic(auto, unfolding(crate::specs::Parts::sided_then))]
+    #[tactic(auto, unfolding(crate::specs::inner::Parts::sided_then))]
     fn trim_side(
         &self,
         tokens: &mut Cursor<'_>,
@@ -247,7 +247,7 @@ impl<F: Fn(Global, Nested, &mut Cursor<'_>) -> Result<Boxed<Ast>, ParseError>> G
         requires fewer { length tokens.old < self.now.room }
         ensures { Reads Tree (part.sided_then at side tokens.old) result tokens.new }
     {
-        if let Some(_) = tokens.eat(Class::Only(Kind::From)) {
+        if let Some(_) = tokens.eat(Class::Only(Kind::Word(Word::From))) {
             return self.trim_from(tokens, at, side, None);
         }
         let first = self.expr(tokens)?;
@@ -255,7 +255,7 @@ impl<F: Fn(Global, Nested, &mut Cursor<'_>) -> Result<Boxed<Ast>, ParseError>> G
     }
 
     /// Behind the first expression of TRIM.
-    #[tactic(auto, unfolding(crate::specs::Parts::trimmed_then, crate::specs::Parts::set_source_then, crate::specs::Parts::source_then))]
+    #[tactic(auto, unfolding(crate::specs::inner::Parts::trimmed_then, crate::specs::inner::Parts::set_source_then, crate::specs::inner::Parts::source_then))]
     fn trim_end(
         &self,
         tokens: &mut Cursor<'_>,
@@ -267,14 +267,14 @@ impl<F: Fn(Global, Nested, &mut Cursor<'_>) -> Result<Boxed<Ast>, ParseError>> G
         requires fewer { length tokens.old < self.now.room }
         ensures { Reads Tree (part.trimmed_then at side (Tree first) tokens.old) result tokens.new }
     {
-        if let Some(_) = tokens.eat(Class::Only(Kind::From)) {
+        if let Some(_) = tokens.eat(Class::Only(Kind::Word(Word::From))) {
             return self.trim_from(tokens, at, side, Some(first));
         }
-        let set = match tokens.eat(Class::Only(Kind::Comma)) {
+        let set = match tokens.eat(Class::Only(Kind::Mark(Mark::Comma))) {
             Some(_) => Some(self.expr(tokens)?),
             None => None,
         };
-        tokens.expect(Class::Only(Kind::Close))?;
+        tokens.expect(Class::Only(Kind::Mark(Mark::CloseParen)))?;
         let text = first;
         Ok(Boxed::new(
             self.alloc,
@@ -288,7 +288,7 @@ impl<F: Fn(Global, Nested, &mut Cursor<'_>) -> Result<Boxed<Ast>, ParseError>> G
     }
 
     /// Behind the word FROM of TRIM.
-    #[tactic(auto, unfolding(crate::specs::Parts::source_then))]
+    #[tactic(auto, unfolding(crate::specs::inner::Parts::source_then))]
     fn trim_from(
         &self,
         tokens: &mut Cursor<'_>,
@@ -301,7 +301,7 @@ impl<F: Fn(Global, Nested, &mut Cursor<'_>) -> Result<Boxed<Ast>, ParseError>> G
         ensures { Reads Tree (part.source_then at side set tokens.old) result tokens.new }
     {
         let text = self.expr(tokens)?;
-        tokens.expect(Class::Only(Kind::Close))?;
+        tokens.expect(Class::Only(Kind::Mark(Mark::CloseParen)))?;
         Ok(Boxed::new(
             self.alloc,
             Ast::TrimFrom {

@@ -103,13 +103,13 @@ pub(crate) fn side(token: &Token) -> Side
 pub(crate) fn any_case(token: &Token) -> bool
     ensures { result ≡ table.any_case token.now }
 {
-    Kind::Ilike.is(token_kind(token))
+    token_kind(token) == Kind::Word(Word::Ilike)
 }
 
 pub(crate) fn moment(token: &Token) -> Moment
     ensures { result ≡ table.moment_of token.now }
 {
-    if Kind::Time.is(token_kind(token)) {
+    if token_kind(token) == Kind::Time {
         Moment::Time
     } else {
         Moment::Timestamp
@@ -120,7 +120,7 @@ pub(crate) fn moment(token: &Token) -> Moment
 pub(crate) fn zoned(token: &Token, moment: Moment) -> TypeName
     ensures { result ≡ table.zoned token.now moment }
 {
-    if Kind::With.is(token_kind(token)) {
+    if token_kind(token) == Kind::With {
         TypeName::WithTimeZone(moment)
     } else {
         TypeName::WithoutTimeZone(moment)

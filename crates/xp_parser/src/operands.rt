@@ -3,9 +3,9 @@ ghost use Rattle.std.specs.Prelude.{◌≡◌, ◌≤◌, ◌<◌, length, IfOk}
 ghost use Rattle.xp_grammar.specs.Machine.{parse};
 ghost use Rattle.xp_grammar.specs.Table.{Level, Tree};
 ghost use Rattle.xp_grammar.specs.Table as table;
-ghost use Rattle.xp_parser.specs.Nests.{Nests};
-ghost use Rattle.xp_parser.specs.Parts as part;
-ghost use Rattle.xp_parser.specs.Reading.{Reads};
+ghost use Rattle.xp_parser.specs.inner.Nests.{Nests};
+ghost use Rattle.xp_parser.specs.inner.Parts as part;
+ghost use Rattle.xp_parser.specs.inner.Reading.{Reads};
 
 use crate::cursor::Cursor;
 use crate::grammar::{Grammar, Nested};
@@ -15,7 +15,7 @@ use sqlite_items::Boxed;
 use std::alloc::{AllocError, Global};
 use xp_base::Span;
 use xp_grammar::{Ast, Class, Kind, TypeWords};
-use xp_token::Token;
+use xp_token::{Mark, Token};
 
 /// What was read of an operand. Where it ends in a type, brackets may still go on with that.
 #[derive(Drop)]
@@ -24,7 +24,7 @@ pub(crate) enum Operand {
     Cast {
         inner: Boxed<Ast>,
         at: Span,
-        target: TypeWords,
+        target: Boxed<TypeWords>,
     },
 }
 
@@ -35,15 +35,19 @@ pub(crate) struct Index {
     whole: bool,
 }
 
-fn array_of(target: TypeWords) -> TypeWords
-    ensures { result ≡ table.array_of target }
+fn array_of(alloc: Global, target: Boxed<TypeWords>) -> Result<Boxed<TypeWords>, AllocError>
+    ensures { IfOk result (λ t. t ≡ table.array_of target) }
 {
-    TypeWords {
-        at: target.at,
-        name: target.name,
-        modifier: target.modifier,
-        array: true,
-    }
+    let target = target.into_inner();
+    Boxed::new(
+        alloc,
+        TypeWords {
+            at: target.at,
+            name: target.name,
+            modifier: target.modifier,
+            array: true,
+        },
+    )
 }
 
 /// An operand as an expression.
@@ -57,7 +61,7 @@ fn close(alloc: Global, operand: Operand) -> Result<Boxed<Ast>, AllocError>
 }
 
 impl<F: Fn(Global, Nested, &mut Cursor<'_>) -> Result<Boxed<Ast>, ParseError>> Grammar<F> {
-    #[tactic(auto, using(crate::proofs::OperandLaws::signed_is), unfolding(crate::specs::Parts::signed_part))]
+    #[tactic(auto, using(crate::proofs::OperandLaws::signed_is), unfolding(crate::specs::inner::Parts::signed_part))]
     pub(crate) fn signed(&self, tokens: &mut Cursor<'_>) -> Result<Boxed<Ast>, ParseError>
         requires nests { Nests self.now.room (F.pre self.now.nested) (F.post self.now.nested) }
         requires fewer { length tokens.old ≤ self.now.room }
@@ -65,7 +69,7 @@ impl<F: Fn(Global, Nested, &mut Cursor<'_>) -> Result<Boxed<Ast>, ParseError>> G
     {
         match tokens.eat(Class::Only(Kind::Sign)) {
             Some(operator) => {
-                let arg = self.signed(tokens)?;
+                let arg = self.within(Nested::Signed, tokens)?;
                 let name = held::name(self.alloc, operator)?;
                 let at = operator.span;
                 Ok(Boxed::new(self.alloc, Ast::Sign { at, name, arg })?)
@@ -77,7 +81,7 @@ impl<F: Fn(Global, Nested, &mut Cursor<'_>) -> Result<Boxed<Ast>, ParseError>> G
         }
     }
 
-    #[tactic(auto, using(crate::proofs::OperandLaws::operand_is, crate::proofs::OperandLaws::more_operand, xp_grammar::proofs::Turns::parse_takes), unfolding(crate::specs::Parts::more_part))]
+    #[tactic(auto, using(crate::proofs::OperandLaws::operand_is, crate::proofs::OperandLaws::more_operand, xp_grammar::proofs::Turns::parse_takes), unfolding(crate::specs::inner::Parts::more_part))]
     fn operand(&self, tokens: &mut Cursor<'_>) -> Result<Operand, ParseError>
         requires nests { Nests self.now.room (F.pre self.now.nested) (F.post self.now.nested) }
         requires fewer { length tokens.old ≤ self.now.room }
@@ -85,9 +89,9 @@ impl<F: Fn(Global, Nested, &mut Cursor<'_>) -> Result<Boxed<Ast>, ParseError>> G
     {
         let mut operand = Operand::Plain(self.primary(tokens)?);
         'turns: loop {
-            match tokens.eat(Class::Only(Kind::Typed)) {
+            match tokens.eat(Class::Only(Kind::Mark(Mark::DoubleColon))) {
                 Some(colons) => operand = self.cast(tokens, operand, colons)?,
-                None => match tokens.eat(Class::Only(Kind::OpenBracket)) {
+                None => match tokens.eat(Class::Only(Kind::Mark(Mark::OpenBracket))) {
                     Some(bracket) => operand = self.brackets(tokens, operand, bracket)?,
                     None => return Ok(operand),
                 },
@@ -96,7 +100,7 @@ impl<F: Fn(Global, Nested, &mut Cursor<'_>) -> Result<Boxed<Ast>, ParseError>> G
     }
 
     /// A type behind an operand, behind its colons.
-    #[tactic(auto, unfolding(crate::specs::Parts::cast_part))]
+    #[tactic(auto, unfolding(crate::specs::inner::Parts::cast_part))]
     fn cast(
         &self,
         tokens: &mut Cursor<'_>,
@@ -106,6 +110,7 @@ impl<F: Fn(Global, Nested, &mut Cursor<'_>) -> Result<Boxed<Ast>, ParseError>> G
         ensures { Reads part.operand (part.cast_part (part.operand operand) colons.now tokens.old) result tokens.new }
     {
         let target = types::basic(self.alloc, tokens)?;
+        let target = Boxed::new(self.alloc, target)?;
         Ok(Operand::Cast {
             inner: close(self.alloc, operand)?,
             at: colons.span,
@@ -114,7 +119,7 @@ impl<F: Fn(Global, Nested, &mut Cursor<'_>) -> Result<Boxed<Ast>, ParseError>> G
     }
 
     /// What stands in brackets, behind the first.
-    #[tactic(auto, unfolding(crate::specs::Parts::index_part))]
+    #[tactic(auto, unfolding(crate::specs::inner::Parts::index_part))]
     fn index(&self, tokens: &mut Cursor<'_>) -> Result<Index, ParseError>
         requires nests { Nests self.now.room (F.pre self.now.nested) (F.post self.now.nested) }
         requires fewer { length tokens.old < self.now.room }
@@ -124,12 +129,12 @@ impl<F: Fn(Global, Nested, &mut Cursor<'_>) -> Result<Boxed<Ast>, ParseError>> G
         let before = tokens.left();
         let at = self.expr(tokens)?;
         let whole = number && before - tokens.left() == 1;
-        tokens.expect(Class::Only(Kind::CloseBracket))?;
+        tokens.expect(Class::Only(Kind::Mark(Mark::CloseBracket)))?;
         Ok(Index { at, whole })
     }
 
     /// Brackets behind an operand, behind the first.
-    #[tactic(auto, unfolding(crate::specs::Parts::bracket_part))]
+    #[tactic(auto, unfolding(crate::specs::inner::Parts::bracket_part))]
     fn brackets(
         &self,
         tokens: &mut Cursor<'_>,
@@ -146,13 +151,13 @@ impl<F: Fn(Global, Nested, &mut Cursor<'_>) -> Result<Boxed<Ast>, ParseError>> G
                 Ok(Operand::Plain(self.subscript(array, bracket, index.at)?))
             }
             Operand::Cast { inner, at, target } => {
-                if let Some(_) = tokens.eat(Class::Only(Kind::CloseBracket)) {
-                    let target = array_of(target);
+                if let Some(_) = tokens.eat(Class::Only(Kind::Mark(Mark::CloseBracket))) {
+                    let target = array_of(self.alloc, target)?;
                     return Ok(Operand::Cast { inner, at, target });
                 }
                 let index = self.index(tokens)?;
                 if index.whole {
-                    let target = array_of(target);
+                    let target = array_of(self.alloc, target)?;
                     return Ok(Operand::Cast { inner, at, target });
                 }
                 let array = Boxed::new(self.alloc, Ast::Cast { at, inner, target })?;

@@ -2,9 +2,9 @@
 ghost use Rattle.std.specs.Prelude.{◌≡◌, ◌≤◌, length, IfOk};
 ghost use Rattle.xp_grammar.specs.Machine.{parse};
 ghost use Rattle.xp_grammar.specs.Table.{Level, Tree, at};
-ghost use Rattle.xp_parser.specs.Nests.{Nests};
-ghost use Rattle.xp_parser.specs.Parts as part;
-ghost use Rattle.xp_parser.specs.Reading.{Reads};
+ghost use Rattle.xp_parser.specs.inner.Nests.{Nests};
+ghost use Rattle.xp_parser.specs.inner.Parts as part;
+ghost use Rattle.xp_parser.specs.inner.Reading.{Reads};
 
 use crate::cursor::Cursor;
 use crate::grammar::{Grammar, Nested};
@@ -13,18 +13,18 @@ use crate::parse_error::ParseError;
 use sqlite_items::Boxed;
 use std::alloc::{AllocError, Global};
 use xp_grammar::{Ast, Class, Kind, TruthTest};
-use xp_token::Token;
+use xp_token::{Mark, Token, Word};
 
 impl<F: Fn(Global, Nested, &mut Cursor<'_>) -> Result<Boxed<Ast>, ParseError>> Grammar<F> {
-    #[tactic(auto, using(crate::proofs::TestLaws::not_is), unfolding(crate::specs::Parts::not_part))]
+    #[tactic(auto, using(crate::proofs::TestLaws::not_is), unfolding(crate::specs::inner::Parts::not_part))]
     pub(crate) fn not(&self, tokens: &mut Cursor<'_>) -> Result<Boxed<Ast>, ParseError>
         requires nests { Nests self.now.room (F.pre self.now.nested) (F.post self.now.nested) }
         requires fewer { length tokens.old ≤ self.now.room }
         ensures { Reads Tree (parse Level.E2 tokens.old) result tokens.new }
     {
-        match tokens.eat(Class::Only(Kind::Not)) {
+        match tokens.eat(Class::Only(Kind::Word(Word::Not))) {
             Some(word) => {
-                let arg = self.not(tokens)?;
+                let arg = self.within(Nested::Negation, tokens)?;
                 let at = word.span;
                 Ok(Boxed::new(self.alloc, Ast::Not { at, arg })?)
             }
@@ -32,20 +32,20 @@ impl<F: Fn(Global, Nested, &mut Cursor<'_>) -> Result<Boxed<Ast>, ParseError>> G
         }
     }
 
-    #[tactic(auto, using(xp_grammar::proofs::Turns::parse_less, crate::proofs::TestLaws::test_is), unfolding(crate::specs::Parts::test_part, crate::specs::Parts::test_then))]
+    #[tactic(auto, using(xp_grammar::proofs::Turns::parse_less, crate::proofs::TestLaws::test_is), unfolding(crate::specs::inner::Parts::test_part, crate::specs::inner::Parts::test_then))]
     fn test(&self, tokens: &mut Cursor<'_>) -> Result<Boxed<Ast>, ParseError>
         requires nests { Nests self.now.room (F.pre self.now.nested) (F.post self.now.nested) }
         requires fewer { length tokens.old ≤ self.now.room }
         ensures { Reads Tree (parse Level.E3 tokens.old) result tokens.new }
     {
         let arg = self.compared(tokens)?;
-        if let Some(word) = tokens.eat(Class::Only(Kind::Is)) {
+        if let Some(word) = tokens.eat(Class::Only(Kind::Word(Word::Is))) {
             return self.is(tokens, arg, word);
         }
-        if let Some(word) = tokens.eat(Class::Only(Kind::Isnull)) {
+        if let Some(word) = tokens.eat(Class::Only(Kind::Word(Word::Isnull))) {
             return Ok(self.null_test(arg, word, false)?);
         }
-        if let Some(word) = tokens.eat(Class::Only(Kind::Notnull)) {
+        if let Some(word) = tokens.eat(Class::Only(Kind::Word(Word::Notnull))) {
             return Ok(self.null_test(arg, word, true)?);
         }
         Ok(arg)
@@ -71,7 +71,7 @@ impl<F: Fn(Global, Nested, &mut Cursor<'_>) -> Result<Boxed<Ast>, ParseError>> G
     }
 
     /// Behind the word IS.
-    #[tactic(auto, unfolding(crate::specs::Parts::is_then))]
+    #[tactic(auto, unfolding(crate::specs::inner::Parts::is_then))]
     fn is(
         &self,
         tokens: &mut Cursor<'_>,
@@ -82,14 +82,14 @@ impl<F: Fn(Global, Nested, &mut Cursor<'_>) -> Result<Boxed<Ast>, ParseError>> G
         requires fewer { length tokens.old ≤ self.now.room }
         ensures { Reads Tree (part.is_then (Tree arg) word.now tokens.old) result tokens.new }
     {
-        match tokens.eat(Class::Only(Kind::Not)) {
+        match tokens.eat(Class::Only(Kind::Word(Word::Not))) {
             Some(_) => self.is_end(tokens, arg, word, true),
             None => self.is_end(tokens, arg, word, false),
         }
     }
 
     /// Behind IS or IS NOT.
-    #[tactic(auto, unfolding(crate::specs::Parts::is_end))]
+    #[tactic(auto, unfolding(crate::specs::inner::Parts::is_end))]
     fn is_end(
         &self,
         tokens: &mut Cursor<'_>,
@@ -114,8 +114,8 @@ impl<F: Fn(Global, Nested, &mut Cursor<'_>) -> Result<Boxed<Ast>, ParseError>> G
                 },
             )?);
         }
-        tokens.expect(Class::Only(Kind::Distinct))?;
-        tokens.expect(Class::Only(Kind::From))?;
+        tokens.expect(Class::Only(Kind::Word(Word::Distinct)))?;
+        tokens.expect(Class::Only(Kind::Word(Word::From)))?;
         let right = self.compared(tokens)?;
         Ok(Boxed::new(
             self.alloc,
@@ -129,7 +129,7 @@ impl<F: Fn(Global, Nested, &mut Cursor<'_>) -> Result<Boxed<Ast>, ParseError>> G
     }
 
     /// One comparison at most.
-    #[tactic(auto, using(xp_grammar::proofs::Turns::parse_less, crate::proofs::TestLaws::compared_is), unfolding(crate::specs::Parts::compared_part))]
+    #[tactic(auto, using(xp_grammar::proofs::Turns::parse_less, crate::proofs::TestLaws::compared_is), unfolding(crate::specs::inner::Parts::compared_part))]
     fn compared(&self, tokens: &mut Cursor<'_>) -> Result<Boxed<Ast>, ParseError>
         requires nests { Nests self.now.room (F.pre self.now.nested) (F.post self.now.nested) }
         requires fewer { length tokens.old ≤ self.now.room }
@@ -156,21 +156,21 @@ impl<F: Fn(Global, Nested, &mut Cursor<'_>) -> Result<Boxed<Ast>, ParseError>> G
     }
 
     /// One BETWEEN, IN, LIKE or ILIKE at most.
-    #[tactic(auto, using(xp_grammar::proofs::Turns::parse_less, crate::proofs::TestLaws::range_is), unfolding(crate::specs::Parts::range_part, crate::specs::Parts::range_then))]
+    #[tactic(auto, using(xp_grammar::proofs::Turns::parse_less, crate::proofs::TestLaws::range_is), unfolding(crate::specs::inner::Parts::range_part, crate::specs::inner::Parts::range_then))]
     fn range(&self, tokens: &mut Cursor<'_>) -> Result<Boxed<Ast>, ParseError>
         requires nests { Nests self.now.room (F.pre self.now.nested) (F.post self.now.nested) }
         requires fewer { length tokens.old ≤ self.now.room }
         ensures { Reads Tree (parse Level.E5 tokens.old) result tokens.new }
     {
         let left = self.other(tokens)?;
-        if let Some(_) = tokens.eat(Class::Only(Kind::Not)) {
+        if let Some(_) = tokens.eat(Class::Only(Kind::Word(Word::Not))) {
             return self.not_range(tokens, left);
         }
-        if let Some(word) = tokens.eat(Class::Only(Kind::Between)) {
+        if let Some(word) = tokens.eat(Class::Only(Kind::Word(Word::Between))) {
             return self.between(tokens, left, word, false);
         }
-        if let Some(word) = tokens.eat(Class::Only(Kind::In)) {
-            return self.within(tokens, left, word, false);
+        if let Some(word) = tokens.eat(Class::Only(Kind::Word(Word::In))) {
+            return self.in_list(tokens, left, word, false);
         }
         if let Some(word) = tokens.eat(Class::Likes) {
             return self.like(tokens, left, word, false);
@@ -179,24 +179,24 @@ impl<F: Fn(Global, Nested, &mut Cursor<'_>) -> Result<Boxed<Ast>, ParseError>> G
     }
 
     /// Behind the word NOT that stands behind an operand.
-    #[tactic(auto, unfolding(crate::specs::Parts::not_range_then))]
+    #[tactic(auto, unfolding(crate::specs::inner::Parts::not_range_then))]
     fn not_range(&self, tokens: &mut Cursor<'_>, left: Boxed<Ast>) -> Result<Boxed<Ast>, ParseError>
         requires nests { Nests self.now.room (F.pre self.now.nested) (F.post self.now.nested) }
         requires fewer { length tokens.old ≤ self.now.room }
         ensures { Reads Tree (part.not_range_then (Tree left) tokens.old) result tokens.new }
     {
-        if let Some(word) = tokens.eat(Class::Only(Kind::Between)) {
+        if let Some(word) = tokens.eat(Class::Only(Kind::Word(Word::Between))) {
             return self.between(tokens, left, word, true);
         }
-        if let Some(word) = tokens.eat(Class::Only(Kind::In)) {
-            return self.within(tokens, left, word, true);
+        if let Some(word) = tokens.eat(Class::Only(Kind::Word(Word::In))) {
+            return self.in_list(tokens, left, word, true);
         }
         let word = tokens.expect(Class::Likes)?;
         self.like(tokens, left, word, true)
     }
 
     /// Behind the word BETWEEN.
-    #[tactic(auto, using(xp_grammar::proofs::Turns::parse_less), unfolding(crate::specs::Parts::between_then))]
+    #[tactic(auto, using(xp_grammar::proofs::Turns::parse_less), unfolding(crate::specs::inner::Parts::between_then))]
     fn between(
         &self,
         tokens: &mut Cursor<'_>,
@@ -209,7 +209,7 @@ impl<F: Fn(Global, Nested, &mut Cursor<'_>) -> Result<Boxed<Ast>, ParseError>> G
         ensures { Reads Tree (part.between_then negated (Tree arg) word.now tokens.old) result tokens.new }
     {
         let low = self.other(tokens)?;
-        tokens.expect(Class::Only(Kind::And))?;
+        tokens.expect(Class::Only(Kind::Word(Word::And)))?;
         let high = self.other(tokens)?;
         let at = word.span;
         Ok(Boxed::new(
@@ -225,8 +225,8 @@ impl<F: Fn(Global, Nested, &mut Cursor<'_>) -> Result<Boxed<Ast>, ParseError>> G
     }
 
     /// Behind the word IN.
-    #[tactic(auto, using(xp_grammar::proofs::Turns::parse_less), unfolding(crate::specs::Parts::in_then))]
-    fn within(
+    #[tactic(auto, using(xp_grammar::proofs::Turns::parse_less), unfolding(crate::specs::inner::Parts::in_then))]
+    fn in_list(
         &self,
         tokens: &mut Cursor<'_>,
         arg: Boxed<Ast>,
@@ -237,9 +237,9 @@ impl<F: Fn(Global, Nested, &mut Cursor<'_>) -> Result<Boxed<Ast>, ParseError>> G
         requires fewer { length tokens.old ≤ self.now.room }
         ensures { Reads Tree (part.in_then negated (Tree arg) word.now tokens.old) result tokens.new }
     {
-        tokens.expect(Class::Only(Kind::Open))?;
+        tokens.expect(Class::Only(Kind::Mark(Mark::OpenParen)))?;
         let list = self.list(tokens)?;
-        tokens.expect(Class::Only(Kind::Close))?;
+        tokens.expect(Class::Only(Kind::Mark(Mark::CloseParen)))?;
         let at = word.span;
         Ok(Boxed::new(
             self.alloc,
@@ -253,7 +253,7 @@ impl<F: Fn(Global, Nested, &mut Cursor<'_>) -> Result<Boxed<Ast>, ParseError>> G
     }
 
     /// Behind the word LIKE or ILIKE.
-    #[tactic(auto, using(xp_grammar::proofs::Turns::parse_less), unfolding(crate::specs::Parts::like_then))]
+    #[tactic(auto, using(xp_grammar::proofs::Turns::parse_less), unfolding(crate::specs::inner::Parts::like_then))]
     fn like(
         &self,
         tokens: &mut Cursor<'_>,

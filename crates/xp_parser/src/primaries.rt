@@ -2,9 +2,9 @@
 ghost use Rattle.std.specs.Prelude.{◌≡◌, ◌≤◌, ◌<◌, length, IfOk};
 ghost use Rattle.xp_grammar.specs.Machine.{parse};
 ghost use Rattle.xp_grammar.specs.Table.{Level, Tree, at, name_of, one_word};
-ghost use Rattle.xp_parser.specs.Nests.{Nests};
-ghost use Rattle.xp_parser.specs.Parts as part;
-ghost use Rattle.xp_parser.specs.Reading.{Reads};
+ghost use Rattle.xp_parser.specs.inner.Nests.{Nests};
+ghost use Rattle.xp_parser.specs.inner.Parts as part;
+ghost use Rattle.xp_parser.specs.inner.Reading.{Reads};
 
 use crate::cursor::Cursor;
 use crate::grammar::{Grammar, Nested};
@@ -15,11 +15,11 @@ use sqlite_items::{Boxed, Items};
 use std::alloc::Global;
 use xp_base::Memory;
 use xp_grammar::{Ast, Class, Kind, TypeModifier, TypeWords};
-use xp_token::Token;
+use xp_token::{Mark, Token, Word};
 
 impl<F: Fn(Global, Nested, &mut Cursor<'_>) -> Result<Boxed<Ast>, ParseError>> Grammar<F> {
     /// An operand without operators around it.
-    #[tactic(auto, using(crate::proofs::PrimaryLaws::primary_is), unfolding(crate::specs::Parts::primary_part))]
+    #[tactic(auto, using(crate::proofs::PrimaryLaws::primary_is), unfolding(crate::specs::inner::Parts::primary_part))]
     pub(crate) fn primary(&self, tokens: &mut Cursor<'_>) -> Result<Boxed<Ast>, ParseError>
         requires nests { Nests self.now.room (F.pre self.now.nested) (F.post self.now.nested) }
         requires fewer { length tokens.old ≤ self.now.room }
@@ -31,13 +31,13 @@ impl<F: Fn(Global, Nested, &mut Cursor<'_>) -> Result<Boxed<Ast>, ParseError>> G
         if let Some(word) = tokens.eat(Class::Names) {
             return self.named(tokens, word);
         }
-        if let Some(word) = tokens.eat(Class::Only(Kind::Open)) {
+        if let Some(word) = tokens.eat(Class::Only(Kind::Mark(Mark::OpenParen))) {
             return self.paren(tokens, word);
         }
-        if let Some(word) = tokens.eat(Class::Only(Kind::Cast)) {
+        if let Some(word) = tokens.eat(Class::Only(Kind::Word(Word::Cast))) {
             return self.cast_as(tokens, word);
         }
-        if let Some(word) = tokens.eat(Class::Only(Kind::Case)) {
+        if let Some(word) = tokens.eat(Class::Only(Kind::Word(Word::Case))) {
             return self.cases(tokens, word);
         }
         if let Some(word) = tokens.eat(Class::Selections) {
@@ -47,7 +47,7 @@ impl<F: Fn(Global, Nested, &mut Cursor<'_>) -> Result<Boxed<Ast>, ParseError>> G
     }
 
     /// Behind a name.
-    #[tactic(auto, unfolding(crate::specs::Parts::named_then))]
+    #[tactic(auto, unfolding(crate::specs::inner::Parts::named_then))]
     fn named(&self, tokens: &mut Cursor<'_>, word: &Token) -> Result<Boxed<Ast>, ParseError>
         requires nests { Nests self.now.room (F.pre self.now.nested) (F.post self.now.nested) }
         requires fewer { length tokens.old < self.now.room }
@@ -57,7 +57,7 @@ impl<F: Fn(Global, Nested, &mut Cursor<'_>) -> Result<Boxed<Ast>, ParseError>> G
         if let Some(constant) = tokens.eat(Class::Only(Kind::String)) {
             return Ok(self.typed_constant(word, constant)?);
         }
-        if let Some(_) = tokens.eat(Class::Only(Kind::Open)) {
+        if let Some(_) = tokens.eat(Class::Only(Kind::Mark(Mark::OpenParen))) {
             return self.call(tokens, word);
         }
         let name = held::name(self.alloc, word)?;
@@ -75,21 +75,19 @@ impl<F: Fn(Global, Nested, &mut Cursor<'_>) -> Result<Boxed<Ast>, ParseError>> G
         };
         let at = constant.span;
         let text = held::text(self.alloc, constant)?;
-        match Boxed::new(self.alloc, Ast::Typed { target, at, text }) {
-            Ok(ast) => Ok(ast),
-            Err(_) => Err(Memory),
-        }
+        let target = Boxed::new(self.alloc, target)?;
+        Ok(Boxed::new(self.alloc, Ast::Typed { target, at, text })?)
     }
 
     /// Behind the first bracket of a call.
-    #[tactic(auto, unfolding(crate::specs::Parts::call_then))]
+    #[tactic(auto, unfolding(crate::specs::inner::Parts::call_then))]
     fn call(&self, tokens: &mut Cursor<'_>, word: &Token) -> Result<Boxed<Ast>, ParseError>
         requires nests { Nests self.now.room (F.pre self.now.nested) (F.post self.now.nested) }
         requires fewer { length tokens.old < self.now.room }
         ensures { Reads Tree (part.call_then word.now tokens.old) result tokens.new }
     {
         let at = word.span;
-        if let Some(_) = tokens.eat(Class::Only(Kind::Close)) {
+        if let Some(_) = tokens.eat(Class::Only(Kind::Mark(Mark::CloseParen))) {
             let name = held::name(self.alloc, word)?;
             let args = Items::new(self.alloc);
             let variadic = false;
@@ -104,7 +102,7 @@ impl<F: Fn(Global, Nested, &mut Cursor<'_>) -> Result<Boxed<Ast>, ParseError>> G
             )?);
         }
         let Arguments { args, variadic } = self.args(tokens)?;
-        tokens.expect(Class::Only(Kind::Close))?;
+        tokens.expect(Class::Only(Kind::Mark(Mark::CloseParen)))?;
         let name = held::name(self.alloc, word)?;
         Ok(Boxed::new(
             self.alloc,
@@ -118,44 +116,44 @@ impl<F: Fn(Global, Nested, &mut Cursor<'_>) -> Result<Boxed<Ast>, ParseError>> G
     }
 
     /// Behind the opening parenthesis.
-    #[tactic(auto, unfolding(crate::specs::Parts::paren_then))]
+    #[tactic(auto, unfolding(crate::specs::inner::Parts::paren_then))]
     fn paren(&self, tokens: &mut Cursor<'_>, word: &Token) -> Result<Boxed<Ast>, ParseError>
         requires nests { Nests self.now.room (F.pre self.now.nested) (F.post self.now.nested) }
         requires fewer { length tokens.old < self.now.room }
         ensures { Reads Tree (part.paren_then word.now tokens.old) result tokens.new }
     {
         let inner = self.expr(tokens)?;
-        tokens.expect(Class::Only(Kind::Close))?;
+        tokens.expect(Class::Only(Kind::Mark(Mark::CloseParen)))?;
         let at = word.span;
         Ok(Boxed::new(self.alloc, Ast::Paren { at, inner })?)
     }
 
     /// Behind the word CAST.
-    #[tactic(auto, unfolding(crate::specs::Parts::cast_then))]
+    #[tactic(auto, unfolding(crate::specs::inner::Parts::cast_then))]
     fn cast_as(&self, tokens: &mut Cursor<'_>, word: &Token) -> Result<Boxed<Ast>, ParseError>
         requires nests { Nests self.now.room (F.pre self.now.nested) (F.post self.now.nested) }
         requires fewer { length tokens.old < self.now.room }
         ensures { Reads Tree (part.cast_then word.now tokens.old) result tokens.new }
     {
-        tokens.expect(Class::Only(Kind::Open))?;
+        tokens.expect(Class::Only(Kind::Mark(Mark::OpenParen)))?;
         let inner = self.expr(tokens)?;
-        tokens.expect(Class::Only(Kind::As))?;
-        let target = types::full(self.alloc, tokens)?;
-        tokens.expect(Class::Only(Kind::Close))?;
+        tokens.expect(Class::Only(Kind::Word(Word::As)))?;
+        let target = Boxed::new(self.alloc, types::full(self.alloc, tokens)?)?;
+        tokens.expect(Class::Only(Kind::Mark(Mark::CloseParen)))?;
         let at = word.span;
         Ok(Boxed::new(self.alloc, Ast::Cast { at, inner, target })?)
     }
 
     /// Behind COALESCE, GREATEST or LEAST.
-    #[tactic(auto, unfolding(crate::specs::Parts::selection_then))]
+    #[tactic(auto, unfolding(crate::specs::inner::Parts::selection_then))]
     fn selection(&self, tokens: &mut Cursor<'_>, word: &Token) -> Result<Boxed<Ast>, ParseError>
         requires nests { Nests self.now.room (F.pre self.now.nested) (F.post self.now.nested) }
         requires fewer { length tokens.old < self.now.room }
         ensures { Reads Tree (part.selection_then word.now tokens.old) result tokens.new }
     {
-        tokens.expect(Class::Only(Kind::Open))?;
+        tokens.expect(Class::Only(Kind::Mark(Mark::OpenParen)))?;
         let args = self.list(tokens)?;
-        tokens.expect(Class::Only(Kind::Close))?;
+        tokens.expect(Class::Only(Kind::Mark(Mark::CloseParen)))?;
         let at = word.span;
         let selection = held::selection(word);
         Ok(Boxed::new(

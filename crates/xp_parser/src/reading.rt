@@ -1,9 +1,8 @@
 //! One statement from all tokens of a list (manual 4.1).
-ghost use Rattle.xp_grammar.specs.Machine.{parse};
 ghost use Rattle.xp_grammar.specs.Reads.{read};
 ghost use Rattle.xp_grammar.specs.Table.{Tree};
-ghost use Rattle.xp_parser.specs.Nests.{level_of};
-ghost use Rattle.xp_parser.specs.Reading.{Answers, Reads};
+ghost use Rattle.xp_parser.specs.inner.Parts.{nested};
+ghost use Rattle.xp_parser.specs.inner.Reading.{Answers, Reads};
 
 use crate::cursor::Cursor;
 use crate::grammar::{Grammar, Nested};
@@ -19,7 +18,7 @@ fn read_nested(
     which: Nested,
     tokens: &mut Cursor<'_>,
 ) -> Result<Boxed<Ast>, ParseError>
-    ensures { Reads Tree (parse (level_of which) tokens.old) result tokens.new }
+    ensures { Reads Tree (nested which tokens.old) result tokens.new }
 {
     let grammar = Grammar {
         alloc,
@@ -28,7 +27,13 @@ fn read_nested(
     };
     match which {
         Nested::Expression => grammar.or(tokens),
+        Nested::Conjunction => grammar.and(tokens),
+        Nested::Negation => grammar.not(tokens),
         Nested::Operation => grammar.other(tokens),
+        Nested::Prefixed => grammar.prefixed(tokens),
+        Nested::Product => grammar.product(tokens),
+        Nested::Power => grammar.power(tokens),
+        Nested::Signed => grammar.signed(tokens),
     }
 }
 

@@ -2,8 +2,8 @@
 ghost use Rattle.std.specs.Prelude.{◌≡◌, IfOk};
 ghost use Rattle.xp_grammar.specs.Machine.{parse};
 ghost use Rattle.xp_grammar.specs.Table.{Level, Named, Spelled, at, type_name};
-ghost use Rattle.xp_parser.specs.Parts as part;
-ghost use Rattle.xp_parser.specs.Reading.{Reads};
+ghost use Rattle.xp_parser.specs.inner.Parts as part;
+ghost use Rattle.xp_parser.specs.inner.Reading.{Reads};
 
 use crate::cursor::Cursor;
 use crate::held;
@@ -11,7 +11,7 @@ use crate::parse_error::ParseError;
 use std::alloc::Global;
 use xp_base::{Memory, Span};
 use xp_grammar::{Class, Kind, TypeModifier, TypeName, TypeWords};
-use xp_token::Token;
+use xp_token::{Mark, Token};
 
 /// The name of a type, with the place of its first token.
 #[derive(Drop)]
@@ -31,7 +31,7 @@ fn one_word(alloc: Global, word: &Token) -> Result<Spelling, Memory>
 }
 
 /// Behind the word `double`.
-#[tactic(auto, unfolding(crate::specs::Parts::double_then))]
+#[tactic(auto, unfolding(crate::specs::inner::Parts::double_then))]
 fn double(alloc: Global, tokens: &mut Cursor<'_>, word: &Token) -> Result<Spelling, ParseError>
     ensures { Reads part.spelling (part.double_then word.now tokens.old) result tokens.new }
 {
@@ -45,7 +45,7 @@ fn double(alloc: Global, tokens: &mut Cursor<'_>, word: &Token) -> Result<Spelli
 }
 
 /// Behind the word `character`.
-#[tactic(auto, unfolding(crate::specs::Parts::character_then))]
+#[tactic(auto, unfolding(crate::specs::inner::Parts::character_then))]
 fn character(alloc: Global, tokens: &mut Cursor<'_>, word: &Token) -> Result<Spelling, ParseError>
     ensures { Reads part.spelling (part.character_then word.now tokens.old) result tokens.new }
 {
@@ -59,7 +59,7 @@ fn character(alloc: Global, tokens: &mut Cursor<'_>, word: &Token) -> Result<Spe
 }
 
 /// Behind the word `timestamp` or `time`.
-#[tactic(auto, unfolding(crate::specs::Parts::moment_then))]
+#[tactic(auto, unfolding(crate::specs::inner::Parts::moment_then))]
 fn moment(alloc: Global, tokens: &mut Cursor<'_>, word: &Token) -> Result<Spelling, ParseError>
     ensures { Reads part.spelling (part.moment_then word.now tokens.old) result tokens.new }
 {
@@ -77,7 +77,7 @@ fn moment(alloc: Global, tokens: &mut Cursor<'_>, word: &Token) -> Result<Spelli
 }
 
 /// A type's name without modifier and brackets.
-#[tactic(auto, using(crate::proofs::TypeLaws::typename_is), unfolding(crate::specs::Parts::typename_part))]
+#[tactic(auto, using(crate::proofs::TypeLaws::typename_is), unfolding(crate::specs::inner::Parts::typename_part))]
 fn typename(alloc: Global, tokens: &mut Cursor<'_>) -> Result<Spelling, ParseError>
     ensures { Reads part.spelling (parse Level.Typename tokens.old) result tokens.new }
 {
@@ -95,7 +95,7 @@ fn typename(alloc: Global, tokens: &mut Cursor<'_>) -> Result<Spelling, ParseErr
 }
 
 /// The name with a modifier, behind the bracket that opens that.
-#[tactic(auto, unfolding(crate::specs::Parts::modifier_then))]
+#[tactic(auto, unfolding(crate::specs::inner::Parts::modifier_then))]
 fn modified(
     tokens: &mut Cursor<'_>,
     spelling: Spelling,
@@ -104,11 +104,11 @@ fn modified(
     ensures { Reads Named (part.modifier_then (part.spelling spelling) bracket.now tokens.old) result tokens.new }
 {
     let first = tokens.expect(Class::Only(Kind::Whole))?;
-    let modifier = match tokens.eat(Class::Only(Kind::Comma)) {
+    let modifier = match tokens.eat(Class::Only(Kind::Mark(Mark::Comma))) {
         Some(_) => held::scaled(bracket, first, tokens.expect(Class::Only(Kind::Whole))?),
         None => held::sized(bracket, first),
     };
-    tokens.expect(Class::Only(Kind::Close))?;
+    tokens.expect(Class::Only(Kind::Mark(Mark::CloseParen)))?;
     Ok(TypeWords {
         at: spelling.at,
         name: spelling.name,
@@ -118,12 +118,12 @@ fn modified(
 }
 
 /// A type without brackets.
-#[tactic(auto, using(crate::proofs::TypeLaws::basic_is), unfolding(crate::specs::Parts::basic_part))]
+#[tactic(auto, using(crate::proofs::TypeLaws::basic_is), unfolding(crate::specs::inner::Parts::basic_part))]
 pub(crate) fn basic(alloc: Global, tokens: &mut Cursor<'_>) -> Result<TypeWords, ParseError>
     ensures { Reads Named (parse Level.Basic tokens.old) result tokens.new }
 {
     let spelling = typename(alloc, tokens)?;
-    match tokens.eat(Class::Only(Kind::Open)) {
+    match tokens.eat(Class::Only(Kind::Mark(Mark::OpenParen))) {
         Some(bracket) => modified(tokens, spelling, bracket),
         None => Ok(TypeWords {
             at: spelling.at,
@@ -135,14 +135,14 @@ pub(crate) fn basic(alloc: Global, tokens: &mut Cursor<'_>) -> Result<TypeWords,
 }
 
 /// A type with its brackets.
-#[tactic(auto, using(crate::proofs::TypeLaws::full_is, crate::proofs::TypeLaws::more_full, crate::proofs::Steps::skipped), unfolding(crate::specs::Parts::brackets_part, crate::specs::Parts::pair_then))]
+#[tactic(auto, using(crate::proofs::TypeLaws::full_is, crate::proofs::TypeLaws::more_full, crate::proofs::Steps::skipped), unfolding(crate::specs::inner::Parts::brackets_part, crate::specs::inner::Parts::pair_then))]
 pub(crate) fn full(alloc: Global, tokens: &mut Cursor<'_>) -> Result<TypeWords, ParseError>
     ensures { Reads Named (parse Level.Full tokens.old) result tokens.new }
 {
     let mut words = basic(alloc, tokens)?;
-    'pairs: while let Some(_) = tokens.eat(Class::Only(Kind::OpenBracket)) {
+    'pairs: while let Some(_) = tokens.eat(Class::Only(Kind::Mark(Mark::OpenBracket))) {
         tokens.eat(Class::Only(Kind::Whole));
-        tokens.expect(Class::Only(Kind::CloseBracket))?;
+        tokens.expect(Class::Only(Kind::Mark(Mark::CloseBracket)))?;
         words.array = true;
     }
     Ok(words)

@@ -1,7 +1,8 @@
 use Rattle.std.proofs.Common.{◌∙◌, ap, ◌≤◌, arith, reverse}
 use Rattle.xp_base.proofs.Lists.{drop_one}
 use Rattle.xp_base.specs.declared.limits.TheConstants.{DEPTH_LIMIT}
-use Rattle.xp_parser.specs.Depth.{deep_from, first_deep, depth_of, seen}
+use Rattle.xp_parser.specs.Depth.{deep_from, first_deep, depth_of}
+use Rattle.xp_parser.specs.inner.Counted.{seen}
 use Rattle.xp_grammar.specs.declared.kind.Kind.TheVariants as k
 use Rattle.xp_parser.proofs.Deep.{closed_is, turn_goes, turn_stops}
 use Rattle.xp_parser.proofs.depth.first_deep.Goals as goal

@@ -1,7 +1,7 @@
 use Rattle.std.proofs.Common.{◌≡◌, ◌<◌, length}
 use Rattle.xp_grammar.specs.Machine.{parse}
 use Rattle.xp_grammar.specs.Table.{Level}
-use Rattle.xp_parser.specs.Parts.{args_part}
+use Rattle.xp_parser.specs.inner.Parts.{args_part}
 use Rattle.xp_parser.proofs.grammar.Grammar.args.Given as goal
 
 abbrev pub invariant-commas : goal.invariant-commas

@@ -1,0 +1,5 @@
+pub mod Counted
+pub mod Nests
+pub mod Parts
+pub mod Reading
+pub mod StatementParts
