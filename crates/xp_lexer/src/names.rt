@@ -35,8 +35,8 @@ pub fn ascii(bytes: &[u8]) -> &str
     }
 }
 
-#[tactic(auto, unfolding(crate::specs::inner::Cutting::name))]
 /// The name or reserved word at the front, and the text behind it.
+#[tactic(auto, unfolding(crate::specs::inner::Cutting::name))]
 pub fn name(alloc: Global, z: &[u8]) -> Result<(TokenKind, &[u8]), ScanError>
     ensures value { spec.Gives (λ x. (seen x.0, x.1.now)) result (spec.name z.now) }
 {

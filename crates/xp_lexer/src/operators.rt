@@ -60,10 +60,8 @@ fn cut(alloc: Global, len: usize, z: &[u8]) -> Result<(TokenKind, &[u8]), ScanEr
     ensures value { spec.Gives (λ x. (seen x.0, x.1.now)) result (spec.cut len z.now) }
 {
     let (front, rest) = z.split_at(len);
-    match Name::from_str(alloc, spelled(ascii(front))) {
-        Ok(name) => Ok((TokenKind::Operator(name), rest)),
-        Err(_) => Err(ScanError::Memory),
-    }
+    let name = Name::from_str(alloc, spelled(ascii(front)))?;
+    Ok((TokenKind::Operator(name), rest))
 }
 
 /// The operator at the front. Where it stands `alone`, it is one sign behind an operator.
