@@ -3,9 +3,9 @@ ghost use Rattle.std.specs.Prelude.{◌≡◌, true};
 ghost use Rattle.xp_parser.specs.Parses.{ends_in_end};
 
 use crate::shown::statement_text;
-use crate::texts::bytes;
 use anyhow::{Result, bail, ensure};
 use std::alloc::{AllocError, Global};
+use xp_cases::{Answers, bytes};
 use xp_lexer::{LexFault, Lexed, lex};
 use xp_parser::{ParseFault, parse};
 use xp_token::{Token, TokenKind, Tokens};
@@ -110,14 +110,19 @@ fn from_answer(alloc: Global, text: &str) -> Result<String> {
     lex_answer(alloc, text, from.parse()?)
 }
 
-pub fn answer(alloc: Global, line: &str) -> Result<String> {
-    let (word, text) = line.split_once(' ').unwrap_or((line, ""));
-    match word {
-        "lex" => lex_answer(alloc, text, 0),
-        "lex-from" => from_answer(alloc, text),
-        "count" => count_answer(alloc, text),
-        "parse" => parse_answer(alloc, text, true),
-        "read" => parse_answer(alloc, text, false),
-        _ => bail!("no such function"),
+/// The cases of tokens and statements.
+pub struct Fronts;
+
+impl Answers for Fronts {
+    fn answer(&self, alloc: Global, case: &str) -> Result<String> {
+        let (word, text) = case.split_once(' ').unwrap_or((case, ""));
+        match word {
+            "lex" => lex_answer(alloc, text, 0),
+            "lex-from" => from_answer(alloc, text),
+            "count" => count_answer(alloc, text),
+            "parse" => parse_answer(alloc, text, true),
+            "read" => parse_answer(alloc, text, false),
+            _ => bail!("no such function"),
+        }
     }
 }
