@@ -2,7 +2,8 @@
 ghost use Rattle.std.specs.Prelude.{◌≡◌, ◌≤◌, [], ◌∷◌, length, IfOk};
 ghost use Rattle.xp_grammar.specs.Machine.{parse};
 ghost use Rattle.xp_grammar.specs.Machine as machine;
-ghost use Rattle.xp_grammar.specs.Table.{Level, Tree, Word};
+ghost use Rattle.xp_grammar.specs.Table as table;
+ghost use Rattle.xp_grammar.specs.Table.{Level, Tree};
 ghost use Rattle.xp_parser.specs.inner.Nests.{Nests};
 ghost use Rattle.xp_parser.specs.inner.Parts as part;
 ghost use Rattle.xp_parser.specs.inner.Reading.{Reads};
@@ -69,7 +70,7 @@ fn joined(
     left: Boxed<Ast>,
     right: Boxed<Ast>,
 ) -> Result<Boxed<Ast>, Memory>
-    ensures { IfOk result (λ e. part.chain_join chain (Tree left) (Word operator.now ∷ Tree right ∷ []) ≡ Tree e) }
+    ensures { IfOk result (λ e. part.chain_join chain (Tree left) (table.Word operator.now ∷ Tree right ∷ []) ≡ Tree e) }
 {
     let at = operator.span;
     let ast = match chain {
