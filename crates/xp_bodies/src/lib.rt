@@ -1,4 +1,5 @@
-//! The table of bodies: what functions are made of, and whether a function is as its body says.
+//! The table of bodies: what functions are made of, and whether a function of a catalogue is as its
+//! body says. It stands on `xp_catalog`, and runs no body: a row says what one takes and gives.
 #![tactic(auto)]
 
 mod fitting;
@@ -7,6 +8,3 @@ mod table;
 
 pub use fitting::fits;
 pub use table::{BodySig, body_named, row_at, sig};
-
-#[cfg(test)]
-mod tests;

@@ -7,6 +7,7 @@ use Rattle.std.specs.Option.{option_map_or}
 use Rattle.std.proofs.lemmas.Option.{get_or_from_slice_get, slice_get_within}
 use Rattle.std.proofs.lemmas.List.Elements.{All-append, All-cons, All-nil, All-weaker}
 use Rattle.std.proofs.lemmas.Bool.{and_parts, not-true}
+use Rattle.xp_catalog.specs.declared.rows.Family.TheVariants.{First, Second}
 use Rattle.xp_catalog.specs.declared.rows.PseudoType.{PseudoType}
 use Rattle.xp_catalog.specs.declared.rows.TypeKind.TheVariants as kind
 use Rattle.xp_catalog.specs.declared.rows.TypeRow.{TypeRow}
@@ -14,7 +15,7 @@ use Rattle.xp_catalog.specs.declared.rows.FuncRow.{FuncRow}
 use Rattle.xp_catalog.specs.declared.record.Record.{Record}
 use Rattle.xp_catalog.specs.declared.record.Record.TheVariants as row
 use Rattle.xp_catalog.specs.Contents.{Contents, added, array_row, first_contents, type_row}
-use Rattle.xp_catalog.specs.Rules.{first_family, has_good_last, has_member, is_called, is_known, keeps_rules, second_family}
+use Rattle.xp_catalog.specs.Rules.{has_good_last, has_member, is_called, is_known, keeps_rules}
 use Rattle.xp_catalog.specs.Spelling.{pseudo_type}
 use Rattle.xp_catalog.specs.WellFormed.{IsBuilt, more, nothing}
 use Rattle.xp_catalog.proofs.Keeps.{keeps-each, known-within}
@@ -60,8 +61,8 @@ YieldsOne-new c func keeps =
     let few = nat_le (length func.args) 100 in
     let last = has_good_last c func.variadic func.args in
     let one = not (is_called c func.result (codes "any")) in
-    let first = has_member c first_family func.args func.result in
-    let second = has_member c second_family func.args func.result in
+    let first = has_member c First func.args func.result in
+    let second = has_member c Second func.args func.result in
     let arguments = (and_parts (few && last && one) first (and_parts (few && last && one && first) second rules.arguments).0).0 in
     record {
       within = known-within c func.result (and_parts (list_all (is_known c) func.args) (is_known c func.result) rules.types).1;

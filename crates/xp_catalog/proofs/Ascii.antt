@@ -4,7 +4,8 @@ use Rattle.std.specs.List.{list_all, list_any}
 use Rattle.std.specs.Str.{IsAscii}
 use Rattle.std.proofs.lemmas.Bool.{and_parts, eqb-true}
 use Rattle.std.proofs.lemmas.Bool.Decides.{nat_tests}
-use Rattle.xp_catalog.specs.Spelling.{is_name, is_name_byte, is_operator_byte, is_operator_name}
+use Rattle.xp_base.specs.Operators.{is_operator_byte, is_operator_name}
+use Rattle.xp_catalog.specs.Spelling.{is_name, is_name_byte}
 
 pub IsAscii-from_test : (p : ℕ → Bool) → ((b : ℕ) → p b ≡ true → b < 128) → (bs : List ℕ) → list_all p bs ≡ true → (i : ℕ) → get_or bs i 0 < 128
 IsAscii-from_test p small [] h i = lit< tt

@@ -1,5 +1,4 @@
 pub mod Ascii
-pub mod Built
 pub mod Keeps
 pub mod KnownRows
 pub mod OneRow

@@ -1,4 +1,5 @@
 pub mod Contents
+pub mod Families
 pub mod Headers
 pub mod Known
 pub mod Lookups
@@ -7,4 +8,3 @@ pub mod Rules
 pub mod Spelling
 pub mod WellFormed
 pub mod Words
-pub mod Worked

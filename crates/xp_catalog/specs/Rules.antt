@@ -3,18 +3,25 @@ use Rattle.std.specs.Prelude.{ℕ, zero, suc, ◌-◌, List, [], ◌∷◌, Bool
 use Rattle.std.specs.Option.{option_map_or}
 use Rattle.std.specs.List.{list_all, list_any}
 use Rattle.std.specs.Str.{bytes_eq}
+use Rattle.xp_base.specs.Operators.{is_operator_name}
 use Rattle.xp_base.specs.declared.numbers.TypeNo.{TypeNo}
 use Rattle.xp_base.specs.declared.numbers.RowNo.{RowNo}
+use Rattle.xp_catalog.specs.declared.rows.Family.{Family}
+use Rattle.xp_catalog.specs.declared.rows.Family.TheVariants.{First, Second}
+use Rattle.xp_catalog.specs.declared.rows.PseudoType.TheVariants as pseudo
 use Rattle.xp_catalog.specs.declared.rows.TypeKind.{TypeKind}
 use Rattle.xp_catalog.specs.declared.rows.TypeKind.TheVariants as kind
 use Rattle.xp_catalog.specs.declared.rows.CastMethod.{CastMethod}
 use Rattle.xp_catalog.specs.declared.rows.CastMethod.TheVariants as method
 use Rattle.xp_catalog.specs.declared.rows.CastRow.{CastRow}
+use Rattle.xp_catalog.specs.declared.record.RecordKind.{RecordKind}
+use Rattle.xp_catalog.specs.declared.record.RecordKind.TheVariants as form
 use Rattle.xp_catalog.specs.declared.record.Record.{Record}
 use Rattle.xp_catalog.specs.declared.record.Record.TheVariants as row
 use Rattle.xp_catalog.specs.Contents.{Contents}
+use Rattle.xp_catalog.specs.Families.{is_of}
 use Rattle.xp_catalog.specs.Lookups.{cast_between, func_at, oper_at, operands, same_types, type_named}
-use Rattle.xp_catalog.specs.Spelling.{is_among, is_letter_of, is_name, is_operator_name, is_type_name, is_pseudo_name, plain_names, range_names, text_names}
+use Rattle.xp_catalog.specs.Spelling.{is_among, is_letter_of, is_name, is_type_name, is_pseudo_name, plain_names, range_names, text_names}
 
 -- ---- what is asked of a type
 
@@ -26,10 +33,6 @@ is_called c type name = bytes_eq (name_of c type) name
 
 abbrev pub kind_of : Contents → TypeNo → TypeKind
 kind_of c type = option_map_or (λ row. row.kind) (slice_get c.types type.0) kind.Plain
-
-abbrev pub is_array_kind : TypeKind → Bool
-is_array_kind (kind.Array element) = true
-is_array_kind _ = false
 
 abbrev pub is_domain_kind : TypeKind → Bool
 is_domain_kind (kind.Domain number) = true
@@ -68,14 +71,35 @@ is_opaque c type = is_opaque_leaf (kind_of c (leaf c type)) (name_of c (leaf c t
 
 -- ---- the rules, in the order in which they are looked at
 
+-- what a record gives
+abbrev pub form_of : Record → RecordKind
+form_of (row.Plain name category preferred line) = form.Plain
+form_of (row.Range name subtype line) = form.Range
+form_of (row.Domain name base not_null check line) = form.Domain
+form_of (row.Cast cast) = form.Cast
+form_of (row.Function func) = form.Function
+form_of (row.Operator oper) = form.Operator
+
+-- under which name; a cast has none
+abbrev pub own_name : Record → List ℕ
+own_name (row.Plain name category preferred line) = name
+own_name (row.Range name subtype line) = name
+own_name (row.Domain name base not_null check line) = name
+own_name (row.Cast cast) = []
+own_name (row.Function func) = func.name
+own_name (row.Operator oper) = oper.name
+
 -- BadName
+abbrev pub is_spelled : RecordKind → List ℕ → Bool
+is_spelled form.Plain name = is_type_name name
+is_spelled form.Range name = is_type_name name
+is_spelled form.Domain name = is_type_name name
+is_spelled form.Cast name = true
+is_spelled form.Function name = is_name name
+is_spelled form.Operator name = is_operator_name name
+
 abbrev pub has_good_name : Record → Bool
-has_good_name (row.Plain name category preferred line) = is_type_name name
-has_good_name (row.Range name subtype line) = is_type_name name
-has_good_name (row.Domain name base not_null check line) = is_type_name name
-has_good_name (row.Cast cast) = true
-has_good_name (row.Function func) = is_name func.name
-has_good_name (row.Operator oper) = is_operator_name oper.name
+has_good_name r = is_spelled (form_of r) (own_name r)
 
 -- BadCategory
 abbrev pub has_good_category : Record → Bool
@@ -117,26 +141,28 @@ has_good_base c (row.Domain name base not_null check line) =
     && not (is_among plain_names name) && not (is_pseudo_name name) && not (is_among range_names name)
 has_good_base c _ = true
 
--- the polymorphic types that are one type in a call, and those that are brought to one (manual 38.2.5)
-abbrev pub first_family : List (List ℕ)
-first_family = codes "anyelement" ∷ codes "anyarray" ∷ codes "anynonarray" ∷ codes "anyrange" ∷ []
-
-abbrev pub second_family : List (List ℕ)
-second_family = codes "anycompatible" ∷ codes "anycompatiblearray" ∷ codes "anycompatiblenonarray" ∷ codes "anycompatiblerange" ∷ []
+abbrev pub is_member : Family → TypeKind → Bool
+is_member family (kind.Pseudo type) = is_of family type
+is_member family _ = false
 
 -- a result of the family has an argument of it
-abbrev pub has_member : Contents → List (List ℕ) → List TypeNo → TypeNo → Bool
-has_member c family args result = not (is_among family (name_of c result)) || list_any (λ arg. is_among family (name_of c arg)) args
+abbrev pub has_member : Contents → Family → List TypeNo → TypeNo → Bool
+has_member c family args result = not (is_member family (kind_of c result)) || list_any (λ arg. is_member family (kind_of c arg)) args
 
 -- the last of some, where there is one
 abbrev pub last_of : List TypeNo → Option TypeNo
 last_of types = slice_get types (length types - 1)
 
-abbrev pub variadic_names : List (List ℕ)
-variadic_names = codes "any" ∷ codes "anyarray" ∷ codes "anycompatiblearray" ∷ []
+-- an array of some type or of each type, or each argument of a type of its own
+abbrev pub is_variadic_kind : TypeKind → Bool
+is_variadic_kind (kind.Array element) = true
+is_variadic_kind (kind.Pseudo pseudo.Any) = true
+is_variadic_kind (kind.Pseudo pseudo.AnyArray) = true
+is_variadic_kind (kind.Pseudo pseudo.AnyCompatibleArray) = true
+is_variadic_kind _ = false
 
 abbrev pub may_be_variadic : Contents → TypeNo → Bool
-may_be_variadic c type = is_array_kind (kind_of c type) || is_among variadic_names (name_of c type)
+may_be_variadic c type = is_variadic_kind (kind_of c type)
 
 abbrev pub has_good_last : Contents → Bool → List TypeNo → Bool
 has_good_last c false args = true
@@ -158,7 +184,7 @@ is_castable c type = not (is_domain_kind (kind_of c type)) && not (is_pseudo_kin
 abbrev pub has_good_args : Contents → Record → Bool
 has_good_args c (row.Function func) =
     nat_le (length func.args) 100 && has_good_last c func.variadic func.args && not (is_called c func.result (codes "any"))
-    && has_member c first_family func.args func.result && has_member c second_family func.args func.result
+    && has_member c First func.args func.result && has_member c Second func.args func.result
 has_good_args c (row.Operator oper) = list_all (λ type. not (is_called c type (codes "any"))) (operands oper.left oper.right)
 has_good_args c (row.Cast cast) =
     is_castable c cast.from && is_castable c cast.to && not (cast.from.0 == cast.to.0) && has_good_method c cast cast.method

@@ -1,5 +1,5 @@
--- How names, letters and flags of records are spelled (manual 4.1.1, 4.1.3, 53.64).
-use Rattle.std.specs.Prelude.{ℕ, ◌-◌, List, [], ◌∷◌, Bool, false, ◌==◌, ◌&&◌, ◌||◌, not, cond, length, nat_lt, nat_le, slice_index, codes, Option, Some, None, is_some}
+-- How names, letters and flags of records are spelled (manual 4.1.1, 8.21, 53.64).
+use Rattle.std.specs.Prelude.{ℕ, List, [], ◌∷◌, Bool, ◌==◌, ◌&&◌, ◌||◌, not, cond, length, nat_lt, nat_le, slice_index, codes, Option, Some, None, is_some}
 use Rattle.std.specs.List.{list_all, list_any}
 use Rattle.std.specs.Str.{bytes_eq}
 use Rattle.xp_catalog.specs.declared.rows.PseudoType.{PseudoType}
@@ -72,36 +72,3 @@ is_letter_of name letter = list_any (λ b. b == letter) (letters_of name)
 
 abbrev pub is_flag : List ℕ → Bool
 is_flag flag = bytes_eq flag (codes "t") || bytes_eq flag (codes "f")
-
-abbrev pub is_operator_byte : ℕ → Bool
-is_operator_byte b = list_any (λ c. c == b) (codes "+-*/<>=~!@#%^&|`?")
-
--- a byte that lets an operator end in + or -
-abbrev pub is_special_byte : ℕ → Bool
-is_special_byte b = list_any (λ c. c == b) (codes "~!@#%^&|`?")
-
--- the byte is the first of the list
-abbrev pub begins_with : ℕ → List ℕ → Bool
-begins_with b [] = false
-begins_with b (x ∷ xs) = x == b
-
--- somewhere the first byte stands before the second
-abbrev pub has_pair : ℕ → ℕ → List ℕ → Bool
-has_pair first second [] = false
-has_pair first second (x ∷ xs) = (x == first && begins_with second xs) || has_pair first second xs
-
--- + or -
-abbrev pub is_sign : ℕ → Bool
-is_sign b = b == 43 || b == 45
-
--- a last + or - is part of the operator
-abbrev pub may_end : List ℕ → Bool
-may_end name = length name == 1 || not (is_sign (slice_index name (length name - 1))) || list_any is_special_byte name
-
--- one whole operator token
-abbrev pub is_operator : List ℕ → Bool
-is_operator name = nat_lt 0 (length name) && list_all is_operator_byte name && not (has_pair 45 45 name) && not (has_pair 47 42 name) && may_end name
-
--- `=>` is no operator, and `!=` is another spelling of `<>`
-abbrev pub is_operator_name : List ℕ → Bool
-is_operator_name name = is_operator name && not (bytes_eq name (codes "=>")) && not (bytes_eq name (codes "!="))

@@ -58,10 +58,7 @@ impl Catalog {
         if name == "unknown" {
             return None;
         }
-        match place_of_type(self.types.as_slice(), name.as_bytes()) {
-            Some(place) => Some(TypeNo(place as u32)),
-            None => None,
-        }
+        Some(TypeNo(place_of_type(self.types.as_slice(), name.as_bytes())? as u32))
     }
 
     /// The cast from one type to the other.
@@ -69,10 +66,7 @@ impl Catalog {
         ensures value { result ≡ cast_between self.now from to }
         ensures within { IfSome result (λ row. row.0 < length self.now.casts) }
     {
-        match place_of_cast(self.casts.as_slice(), from, to) {
-            Some(place) => Some(RowNo(place as u32)),
-            None => None,
-        }
+        Some(RowNo(place_of_cast(self.casts.as_slice(), from, to)? as u32))
     }
 
     /// The function of that name with exactly these arguments.
@@ -80,10 +74,7 @@ impl Catalog {
         ensures value { result ≡ func_at self.now name.now args.now }
         ensures within { IfSome result (λ row. row.0 < length self.now.funcs) }
     {
-        match place_of_func(self.funcs.as_slice(), name.as_bytes(), args) {
-            Some(place) => Some(RowNo(place as u32)),
-            None => None,
-        }
+        Some(RowNo(place_of_func(self.funcs.as_slice(), name.as_bytes(), args)? as u32))
     }
 
     /// The operator of that name with exactly these operands: one for a prefix operator, else left
@@ -92,58 +83,55 @@ impl Catalog {
         ensures value { result ≡ oper_at self.now name.now args.now }
         ensures within { IfSome result (λ row. row.0 < length self.now.opers) }
     {
-        match place_of_oper(self.opers.as_slice(), name.as_bytes(), args) {
-            Some(place) => Some(RowNo(place as u32)),
-            None => None,
-        }
+        Some(RowNo(place_of_oper(self.opers.as_slice(), name.as_bytes(), args)? as u32))
     }
 
-    pub fn type_row(&self, t: TypeNo) -> &TypeRow
-        requires { t.0 < length self.now.types }
-        ensures row { slice_get self.now.types t.0 ≡ Some result.now }
+    pub fn type_row(&self, ty: TypeNo) -> &TypeRow
+        requires { ty.0 < length self.now.types }
+        ensures row { slice_get self.now.types ty.0 ≡ Some result.now }
         ensures known { IsKnownKind self.now result.now.kind }
     {
-        &self.types.as_slice()[t.0 as usize]
+        &self.types.as_slice()[ty.0 as usize]
     }
 
-    pub fn cast_row(&self, r: RowNo) -> &CastRow
-        requires { r.0 < length self.now.casts }
-        ensures row { slice_get self.now.casts r.0 ≡ Some result.now }
+    pub fn cast_row(&self, row: RowNo) -> &CastRow
+        requires { row.0 < length self.now.casts }
+        ensures row { slice_get self.now.casts row.0 ≡ Some result.now }
         ensures known { IsKnownCast self.now result.now }
     {
-        &self.casts.as_slice()[r.0 as usize]
+        &self.casts.as_slice()[row.0 as usize]
     }
 
-    pub fn func_row(&self, r: RowNo) -> &FuncRow
-        requires { r.0 < length self.now.funcs }
-        ensures row { slice_get self.now.funcs r.0 ≡ Some result.now }
+    pub fn func_row(&self, row: RowNo) -> &FuncRow
+        requires { row.0 < length self.now.funcs }
+        ensures row { slice_get self.now.funcs row.0 ≡ Some result.now }
         ensures known { IsKnownFunc self.now result.now }
     {
-        &self.funcs.as_slice()[r.0 as usize]
+        &self.funcs.as_slice()[row.0 as usize]
     }
 
-    pub fn oper_row(&self, r: RowNo) -> &OperRow
-        requires { r.0 < length self.now.opers }
-        ensures row { slice_get self.now.opers r.0 ≡ Some result.now }
+    pub fn oper_row(&self, row: RowNo) -> &OperRow
+        requires { row.0 < length self.now.opers }
+        ensures row { slice_get self.now.opers row.0 ≡ Some result.now }
         ensures known { IsKnownOper self.now result.now }
     {
-        &self.opers.as_slice()[r.0 as usize]
+        &self.opers.as_slice()[row.0 as usize]
     }
 
-    pub fn domain_row(&self, r: RowNo) -> &DomainRow
-        requires { r.0 < length self.now.domains }
-        ensures row { slice_get self.now.domains r.0 ≡ Some result.now }
+    pub fn domain_row(&self, row: RowNo) -> &DomainRow
+        requires { row.0 < length self.now.domains }
+        ensures row { slice_get self.now.domains row.0 ≡ Some result.now }
         ensures known { IsKnownDomain self.now result.now }
     {
-        &self.domains.as_slice()[r.0 as usize]
+        &self.domains.as_slice()[row.0 as usize]
     }
 
-    pub fn range_row(&self, r: RowNo) -> &RangeRow
-        requires { r.0 < length self.now.ranges }
-        ensures row { slice_get self.now.ranges r.0 ≡ Some result.now }
+    pub fn range_row(&self, row: RowNo) -> &RangeRow
+        requires { row.0 < length self.now.ranges }
+        ensures row { slice_get self.now.ranges row.0 ≡ Some result.now }
         ensures known { IsKnownRange self.now result.now }
     {
-        &self.ranges.as_slice()[r.0 as usize]
+        &self.ranges.as_slice()[row.0 as usize]
     }
 
     /// The numbers of rows, and that the catalogue is made of records that keep the rules.

@@ -1,8 +1,8 @@
 //! How names, letters and flags are spelled.
-ghost use Rattle.std.specs.Prelude.{◌≡◌, ◌<◌, IfOk, length, ◌==◌};
+ghost use Rattle.std.specs.Prelude.{◌≡◌, IfOk, ◌==◌};
 ghost use Rattle.std.specs.List.{list_all, list_any};
 ghost use Rattle.std.specs.Str.{IsAscii};
-ghost use Rattle.xp_catalog.specs.Spelling.{begins_with, has_pair, is_among, is_digit, is_flag, is_letter_of, is_name, is_name_byte, is_operator, is_operator_byte, is_operator_name, is_sign, is_special_byte, is_type_name, letters_of, may_end, number_names, is_pseudo_name, plain_names, pseudo_type, range_names, text_names};
+ghost use Rattle.xp_catalog.specs.Spelling.{is_among, is_digit, is_flag, is_letter_of, is_name, is_name_byte, is_type_name, letters_of, number_names, is_pseudo_name, plain_names, pseudo_type, range_names, text_names};
 
 use crate::PseudoType;
 use std::alloc::Global;
@@ -155,84 +155,10 @@ pub fn is_flag(flag: &[u8]) -> bool
     flag == b"t".as_slice() || flag == b"f".as_slice()
 }
 
-fn is_operator_byte(b: u8) -> bool
-    ensures { result ≡ is_operator_byte b }
-{
-    has_byte(b"+-*/<>=~!@#%^&|`?", b)
-}
-
-/// Whether the byte lets an operator end in `+` or `-`.
-fn is_special_byte(b: u8) -> bool
-    ensures { result ≡ is_special_byte b }
-{
-    has_byte(b"~!@#%^&|`?", b)
-}
-
-fn has_special_byte(name: &[u8]) -> bool
-    ensures { result ≡ list_any is_special_byte name.now }
-{
-    name.iter().any(|b| is_special_byte(*b))
-}
-
-fn has_operator_bytes(name: &[u8]) -> bool
-    ensures { result ≡ list_all is_operator_byte name.now }
-{
-    name.iter().all(|b| is_operator_byte(*b))
-}
-
-fn is_sign(b: u8) -> bool
-    ensures { result ≡ is_sign b }
-{
-    b == b'+' || b == b'-'
-}
-
-/// Whether the first byte stands right before the second somewhere.
-fn has_pair(first: u8, second: u8, bytes: &[u8]) -> bool
-    ensures { result ≡ has_pair first second bytes.now }
-{
-    let mut follows = false;
-    for b in bytes {
-        if follows && *b == second {
-            return true;
-        }
-        follows = *b == first;
-    }
-    false
-}
-
-/// Whether a last `+` or `-` is part of the operator (manual 4.1.3).
-fn may_end(name: &[u8]) -> bool
-    requires { 0 < length name.now }
-    ensures { result ≡ may_end name.now }
-{
-    let last = name[name.len() - 1];
-    name.len() == 1 || !is_sign(last) || has_special_byte(name)
-}
-
-fn is_operator(name: &[u8]) -> bool
-    ensures { result ≡ is_operator name.now }
-{
-    !name.is_empty()
-        && has_operator_bytes(name)
-        && !has_pair(b'-', b'-', name)
-        && !has_pair(b'/', b'*', name)
-        && may_end(name)
-}
-
-/// Whether the bytes are one whole operator that a record may name.
-pub fn is_operator_name(name: &[u8]) -> bool
-    ensures { result ≡ is_operator_name name.now }
-{
-    is_operator(name) && name != b"=>".as_slice() && name != b"!=".as_slice()
-}
-
 /// A copy of bytes that are ASCII.
 pub fn new_name(alloc: Global, bytes: &[u8]) -> Result<Name, Memory>
     requires { IsAscii bytes.now }
     ensures { IfOk result (λ name. name ≡ bytes.now) }
 {
-    match String::from_utf8_lossy(alloc, bytes) {
-        Ok(text) => Ok(Name::from_string(text)),
-        Err(_) => Err(Memory),
-    }
+    Ok(Name::from_string(String::from_utf8_lossy(alloc, bytes)?))
 }

@@ -3,6 +3,17 @@
 use crate::{CastRow, FuncRow, OperRow};
 use xp_base::{Byts, Name, TypeNo};
 
+/// What a record gives. `Plain` is a type that is plain or a pseudo-type.
+#[derive(Clone, Copy, Debug, PartialEq, Eq)]
+pub enum RecordKind {
+    Plain,
+    Range,
+    Domain,
+    Cast,
+    Function,
+    Operator,
+}
+
 /// A record, with its line. Types and functions go by the numbers that the records before gave them.
 #[derive(Debug, Drop)]
 pub enum Record {

@@ -1,4 +1,6 @@
 //! The rows of a catalogue.
+ghost use Rattle.std.specs.Prelude.{◌≡◌};
+ghost use Rattle.xp_catalog.specs.Families.{is_of};
 
 use sqlite_items::Items;
 use xp_base::{BodyNo, Byts, Name, RowNo, TypeNo};
@@ -43,6 +45,34 @@ pub enum PseudoType {
     AnyCompatibleArray,
     AnyCompatibleNonArray,
     AnyCompatibleRange,
+}
+
+/// The two families of polymorphic types (manual 38.2.5).
+#[derive(Clone, Copy, Debug, PartialEq, Eq)]
+pub enum Family {
+    /// Those whose members are of one element type in a call.
+    First,
+    /// Those whose members are brought to a common type.
+    Second,
+}
+
+impl PseudoType {
+    /// Whether it is a member of the family. `any` is of none.
+    pub fn is_of(self, family: Family) -> bool
+        ensures { result ≡ is_of family self }
+    {
+        match self {
+            PseudoType::Any => false,
+            PseudoType::AnyElement
+            | PseudoType::AnyArray
+            | PseudoType::AnyNonArray
+            | PseudoType::AnyRange => family == Family::First,
+            PseudoType::AnyCompatible
+            | PseudoType::AnyCompatibleArray
+            | PseudoType::AnyCompatibleNonArray
+            | PseudoType::AnyCompatibleRange => family == Family::Second,
+        }
+    }
 }
 
 /// What a type is made of. A range and a domain have a row of their own.

@@ -13,10 +13,8 @@ pub fn pushed<T: Drop>(items: Items<T>, item: T) -> Result<Items<T>, Memory>
     ensures { IfOk result (λ list. list ≡ items ++ item ∷ []) }
 {
     let mut items = items;
-    match items.push(item) {
-        Ok(()) => Ok(items),
-        Err(_) => Err(Memory),
-    }
+    items.push(item)?;
+    Ok(items)
 }
 
 /// The type `unknown`, which no record gives.
@@ -44,18 +42,15 @@ fn array_text(alloc: Global, name: &str) -> Result<String, AllocError>
 fn array_row(alloc: Global, number: u32, element: &TypeRow) -> Result<TypeRow, Memory>
     ensures { IfOk result (λ row. row ≡ array_row number element.now) }
 {
-    match array_text(alloc, element.name.as_str()) {
-        Ok(text) => Ok(TypeRow {
-            name: Name::from_string(text),
-            category: b'A',
-            preferred: false,
-            kind: TypeKind::Array {
-                element: TypeNo(number),
-            },
-            line: element.line,
-        }),
-        Err(_) => Err(Memory),
-    }
+    Ok(TypeRow {
+        name: Name::from_string(array_text(alloc, element.name.as_str())?),
+        category: b'A',
+        preferred: false,
+        kind: TypeKind::Array {
+            element: TypeNo(number),
+        },
+        line: element.line,
+    })
 }
 
 /// The types with one more behind them, and behind that its array type.

@@ -3,7 +3,7 @@ use Rattle.std.proofs.Common.{◌≡◌, ℕ, ◌+◌, ◌<◌, List, ◌∷◌,
 use Rattle.xp_base.proofs.Lists.{drop_one}
 use Rattle.xp_catalog.specs.declared.record.Record.{Record}
 use Rattle.xp_catalog.specs.declared.why.CatFault.{CatFault}
-use Rattle.xp_catalog.specs.declared.why.CatFault.TheVariants.{Row, TooManyRows, Memory}
+use Rattle.xp_catalog.specs.declared.why.CatFault.TheVariants.{Row, TooManyRows, Unread, Memory}
 use Rattle.xp_catalog.specs.Contents.{Contents, added, first_contents}
 use Rattle.xp_catalog.specs.WellFormed.{more, nothing}
 use Rattle.xp_loader.specs.Loading.{IsLoaded, Loads, accepted, load_from}
@@ -28,4 +28,5 @@ Loads-refused fields rows k row before whole (Row line why) h e refused says =
 Loads-refused fields rows k row before whole (TooManyRows line) h e refused says =
     let rest : drop k rows ≡ row ∷ drop (k + 1) rows = drop_one rows k row h e in
     rw (← says, rest, refused) refl
+Loads-refused fields rows k row before whole Unread h e refused says = tt
 Loads-refused fields rows k row before whole Memory h e refused says = tt

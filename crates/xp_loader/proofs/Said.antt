@@ -10,8 +10,8 @@ use Rattle.xp_catalog.specs.declared.why.Why.{Why}
 use Rattle.xp_catalog.specs.Contents.{Contents}
 use Rattle.xp_catalog.specs.Rules.{has_function, has_good_args, has_good_base, has_good_category, has_good_name, has_known_types, is_known, is_new, keeps_rules}
 use Rattle.xp_catalog.specs.Spelling.{is_letter_of}
-use Rattle.xp_loader.specs.declared.kind.RecordKind.{RecordKind}
-use Rattle.xp_loader.specs.declared.kind.RecordKind.TheVariants as kind
+use Rattle.xp_catalog.specs.declared.record.RecordKind.{RecordKind}
+use Rattle.xp_catalog.specs.declared.record.RecordKind.TheVariants as kind
 use Rattle.xp_loader.specs.Reading.{arg_names, cast_row, function_row, is_set, kind_of, left_of, operator_row, record_as, record_of, type_of, types_of}
 use Rattle.xp_loader.specs.Records.{field}
 use Rattle.xp_loader.specs.Refusing.{Rule, first_broken, fits_body, form_rules, has_category, is_named, rules}

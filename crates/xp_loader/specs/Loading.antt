@@ -1,9 +1,10 @@
 -- What a text is as a catalogue: its records one after another, up to the first that breaks a rule (this project's own).
-use Rattle.std.specs.Prelude.{◌≡◌, ℕ, ◌+◌, List, [], ◌∷◌, cond, nat_le, Option, Some, None, Result, Ok, Err}
+use Rattle.std.specs.Prelude.{◌≡◌, ℕ, ◌+◌, List, [], ◌∷◌, Bool, true, false, cond, nat_le, Option, Some, None, Result, Ok, Err}
 use Rattle.std.specs.Option.{option_map_or}
+use Rattle.xp_base.specs.OrMemory.{OrMemory}
 use Rattle.xp_base.specs.declared.limits.TheConstants.{RECORD_LIMIT}
 use Rattle.xp_catalog.specs.declared.why.CatFault.{CatFault}
-use Rattle.xp_catalog.specs.declared.why.CatFault.TheVariants.{Row, TooManyRows, Memory}
+use Rattle.xp_catalog.specs.declared.why.CatFault.TheVariants.{Row, TooManyRows, Unread, Memory}
 use Rattle.xp_catalog.specs.declared.why.Why.{Why}
 use Rattle.xp_catalog.specs.Contents.{Contents, added, first_contents}
 use Rattle.xp_catalog.specs.WellFormed.{IsBuilt}
@@ -38,12 +39,16 @@ load_from before line (fields ∷ rest) = and_then (accepted before line fields)
 abbrev pub load_catalog : List ℕ → Result Contents CatFault
 load_catalog text = load_from first_contents 1 (records_of text)
 
--- this answer, or want of memory, which is free
+-- no fault of the text: there was no memory, or the reader of its bytes failed
+abbrev pub is_outside : CatFault → Bool
+is_outside (Row line why) = false
+is_outside (TooManyRows line) = false
+is_outside Unread = true
+is_outside Memory = true
+
+-- this answer, or one that is no fault of the text
 abbrev pub Loads : Result Contents CatFault → Result Contents CatFault → Type 0
-Loads said (Ok c) = said ≡ Ok c
-Loads said (Err (Row line why)) = said ≡ Err (Row line why)
-Loads said (Err (TooManyRows line)) = said ≡ Err (TooManyRows line)
-Loads said (Err Memory) = Unit {0}
+Loads = OrMemory is_outside
 
 -- the rows of that many records, whose functions fit their bodies
 pub record IsLoaded (n : ℕ) (c : Contents) : Type 0 where

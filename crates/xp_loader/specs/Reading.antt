@@ -17,8 +17,8 @@ use Rattle.xp_catalog.specs.declared.record.Record.TheVariants as row
 use Rattle.xp_catalog.specs.Contents.{Contents}
 use Rattle.xp_catalog.specs.Lookups.{func_at, operands, row_number, type_named}
 use Rattle.xp_bodies.specs.Table.{body_named}
-use Rattle.xp_loader.specs.declared.kind.RecordKind.{RecordKind}
-use Rattle.xp_loader.specs.declared.kind.RecordKind.TheVariants as kind
+use Rattle.xp_catalog.specs.declared.record.RecordKind.{RecordKind}
+use Rattle.xp_catalog.specs.declared.record.RecordKind.TheVariants as kind
 use Rattle.xp_loader.specs.Records.{field}
 
 -- ---- words

@@ -7,11 +7,11 @@ use Rattle.xp_catalog.specs.declared.why.Why.TheVariants as why
 use Rattle.xp_catalog.specs.declared.record.Record.{Record}
 use Rattle.xp_catalog.specs.declared.record.Record.TheVariants as row
 use Rattle.xp_catalog.specs.Contents.{Contents}
-use Rattle.xp_catalog.specs.Rules.{has_function, has_good_args, has_good_base, is_new}
-use Rattle.xp_catalog.specs.Spelling.{is_among, is_flag, is_letter_of, is_name, is_operator_name, is_type_name}
+use Rattle.xp_catalog.specs.Rules.{has_function, has_good_args, has_good_base, is_new, is_spelled}
+use Rattle.xp_catalog.specs.Spelling.{is_among, is_flag, is_letter_of}
 use Rattle.xp_bodies.specs.Fits.{fits}
-use Rattle.xp_loader.specs.declared.kind.RecordKind.{RecordKind}
-use Rattle.xp_loader.specs.declared.kind.RecordKind.TheVariants as kind
+use Rattle.xp_catalog.specs.declared.record.RecordKind.{RecordKind}
+use Rattle.xp_catalog.specs.declared.record.RecordKind.TheVariants as kind
 use Rattle.xp_loader.specs.declared.record.Refusal.{Refusal}
 use Rattle.xp_loader.specs.declared.record.Refusal.TheVariants.{Broken, Memory}
 use Rattle.xp_loader.specs.Reading.{body_of, kind_of, record_of}
@@ -33,12 +33,7 @@ has_fields form fields = length fields == field_count form
 
 -- the record's own name
 abbrev pub is_named : RecordKind → List (List ℕ) → Bool
-is_named kind.Plain fields = is_type_name (field fields 1)
-is_named kind.Range fields = is_type_name (field fields 1)
-is_named kind.Domain fields = is_type_name (field fields 1)
-is_named kind.Cast fields = true
-is_named kind.Function fields = is_name (field fields 1)
-is_named kind.Operator fields = is_operator_name (field fields 1)
+is_named form fields = is_spelled form (field fields 1)
 
 abbrev pub is_volatility : List ℕ → Bool
 is_volatility = is_among (codes "immutable" ∷ codes "stable" ∷ codes "volatile" ∷ [])

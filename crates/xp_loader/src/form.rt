@@ -4,12 +4,13 @@ ghost use Rattle.csv.specs.Records.{fields_of};
 ghost use Rattle.xp_loader.specs.Reading.{context_of, is_set, volatility_of};
 ghost use Rattle.xp_loader.specs.Refusing.{is_category, has_category, has_context, has_fields, has_flags, is_body, is_context, is_named, is_volatility, names_body};
 
-use crate::kind::{RecordKind, field_count};
+use crate::kind::field_count;
 use crate::names::body_of;
 use crate::text::field;
 use csv::ByteRecord;
-use xp_catalog::names::{is_flag, is_letter_of, is_name, is_operator_name, is_type_name};
-use xp_catalog::{Context, Volatility};
+use xp_base::is_operator_name;
+use xp_catalog::names::{is_flag, is_letter_of, is_name, is_type_name};
+use xp_catalog::{Context, RecordKind, Volatility};
 
 pub fn has_fields(kind: RecordKind, row: &ByteRecord) -> bool
     ensures { result ≡ has_fields kind (fields_of row.now) }

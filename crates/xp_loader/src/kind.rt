@@ -3,16 +3,7 @@ ghost use Rattle.std.specs.Prelude.{◌≡◌};
 ghost use Rattle.xp_loader.specs.Reading.{kind_of};
 ghost use Rattle.xp_loader.specs.Refusing.{field_count};
 
-/// What a record gives. `Plain` is a type that is plain or a pseudo-type.
-#[derive(Clone, Copy, Debug, PartialEq, Eq)]
-pub enum RecordKind {
-    Plain,
-    Range,
-    Domain,
-    Cast,
-    Function,
-    Operator,
-}
+use xp_catalog::RecordKind;
 
 pub fn kind_of(word: &[u8]) -> Option<RecordKind>
     ensures { result ≡ kind_of word.now }

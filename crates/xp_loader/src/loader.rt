@@ -6,7 +6,7 @@ ghost use Rattle.xp_catalog.specs.Contents.{first_contents};
 ghost use Rattle.xp_loader.specs.Loading.{IsLoaded, Loads, accepted, load_catalog, load_from};
 
 use crate::record::{Refusal, read};
-use crate::text::rows_in;
+use crate::text::{ReadFault, rows_in};
 use csv::ByteRecord;
 use std::alloc::Global;
 use xp_base::RECORD_LIMIT;
@@ -59,6 +59,7 @@ pub fn load(alloc: Global, text: &[u8]) -> Result<Catalog, CatFault>
 {
     match rows_in(alloc, text) {
         Ok(rows) => accept_all(alloc, &rows),
-        Err(_) => Err(CatFault::Memory),
+        Err(ReadFault::Unread) => Err(CatFault::Unread),
+        Err(ReadFault::Memory) => Err(CatFault::Memory),
     }
 }

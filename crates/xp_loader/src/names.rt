@@ -119,9 +119,7 @@ fn types_named(alloc: Global, c: &Catalog, names: &[&[u8]]) -> Result<Option<Ite
         let Some(number) = type_of(c, name) else {
             return Ok(None);
         };
-        if types.push(number).is_err() {
-            return Err(Memory);
-        }
+        types.push(number)?;
     }
     Ok(Some(types))
 }
@@ -130,8 +128,5 @@ fn types_named(alloc: Global, c: &Catalog, names: &[&[u8]]) -> Result<Option<Ite
 pub fn types_of(alloc: Global, c: &Catalog, args: &[u8]) -> Result<Option<Items<TypeNo>>, Memory>
     ensures { IfOk result (λ types. types ≡ types_of c.now (arg_names args.now)) }
 {
-    match arg_names(alloc, args) {
-        Ok(names) => types_named(alloc, c, &names),
-        Err(_) => Err(Memory),
-    }
+    types_named(alloc, c, &arg_names(alloc, args)?)
 }

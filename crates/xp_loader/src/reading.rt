@@ -8,7 +8,6 @@ ghost use Rattle.xp_loader.specs.Records.{field};
 ghost use Rattle.xp_loader.specs.Refusing.{is_named};
 
 use crate::form::{context_of, is_set, volatility_of};
-use crate::kind::RecordKind;
 use crate::names::{body_of, function_of, left_of, method_of, type_of, types_of};
 use crate::text::field;
 use csv::ByteRecord;
@@ -16,7 +15,7 @@ use sqlite_items::Items;
 use std::alloc::Global;
 use xp_base::{Byts, Memory, RowNo, TypeNo};
 use xp_catalog::names::new_name;
-use xp_catalog::{CastRow, Catalog, FuncRow, OperRow, Record};
+use xp_catalog::{CastRow, Catalog, FuncRow, OperRow, Record, RecordKind};
 
 fn first_byte(bytes: &[u8]) -> u8
     ensures { result ≡ slice_index bytes.now 0 }

@@ -9,13 +9,13 @@ ghost use Rattle.xp_loader.specs.Records.{field};
 ghost use Rattle.xp_loader.specs.Refusing.{Reads, first_broken, form_rules, is_named, row_rules, rules};
 
 use crate::form::{has_category, has_context, has_fields, has_flags, is_named, names_body};
-use crate::kind::{RecordKind, kind_of};
+use crate::kind::kind_of;
 use crate::reading::read_as;
 use crate::rules::{fits_body, has_function, has_good_args, has_good_base, is_new};
 use crate::text::field;
 use csv::ByteRecord;
 use std::alloc::Global;
-use xp_catalog::{Catalog, Record, Why};
+use xp_catalog::{Catalog, Record, RecordKind, Why};
 
 /// Why there is no record: a rule is broken, or there was no memory.
 #[derive(Clone, Copy, Debug, PartialEq, Eq)]

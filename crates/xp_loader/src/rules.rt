@@ -2,15 +2,16 @@
 ghost use Rattle.std.specs.Prelude.{◌≡◌, codes, is_some, option_map, slice_get, true};
 ghost use Rattle.std.specs.List.{list_any};
 ghost use Rattle.xp_catalog.specs.Lookups.{oper_at, operands};
-ghost use Rattle.xp_catalog.specs.Rules.{casts_by, first_family, has_function, has_good_args, has_good_base, has_good_last, has_known_types, has_member, is_castable, is_called, is_domain_kind, is_new, is_pseudo_kind, kind_of, is_range_over, may_be_binary, may_be_variadic, name_of, second_family, takes_exactly, variadic_names};
-ghost use Rattle.xp_catalog.specs.Spelling.{is_among};
+ghost use Rattle.xp_catalog.specs.Rules.{casts_by, has_function, has_good_args, has_good_base, has_good_last, has_known_types, has_member, is_castable, is_called, is_domain_kind, is_member, is_new, is_pseudo_kind, kind_of, is_range_over, may_be_binary, may_be_variadic, name_of, takes_exactly};
 ghost use Rattle.xp_loader.specs.Refusing.{fits_body};
 
 use crate::types::{is_opaque, kind_of, name_of};
 use xp_base::{ARGUMENT_LIMIT, RowNo, TypeNo};
 use xp_bodies::fits;
 use xp_catalog::names::{is_plain, is_pseudo, is_range, is_text_type};
-use xp_catalog::{CastMethod, CastRow, Catalog, FuncRow, OperRow, Record, TypeKind};
+use xp_catalog::{
+    CastMethod, CastRow, Catalog, Family, FuncRow, OperRow, PseudoType, Record, TypeKind,
+};
 
 fn is_old_operator(c: &Catalog, oper: &OperRow) -> bool
     ensures { result ≡ is_some (oper_at c.now oper.now.name (operands oper.now.left oper.now.right)) }
@@ -54,16 +55,16 @@ fn is_range_over(name: &[u8], subtype: &[u8]) -> bool
     }
 }
 
-fn is_domain(c: &Catalog, t: TypeNo) -> bool
-    ensures { result ≡ is_domain_kind (kind_of c.now t) }
+fn is_domain(c: &Catalog, ty: TypeNo) -> bool
+    ensures { result ≡ is_domain_kind (kind_of c.now ty) }
 {
-    matches!(kind_of(c, t), TypeKind::Domain { .. })
+    matches!(kind_of(c, ty), TypeKind::Domain { .. })
 }
 
-fn is_pseudo_type(c: &Catalog, t: TypeNo) -> bool
-    ensures { result ≡ is_pseudo_kind (kind_of c.now t) }
+fn is_pseudo_type(c: &Catalog, ty: TypeNo) -> bool
+    ensures { result ≡ is_pseudo_kind (kind_of c.now ty) }
 {
-    matches!(kind_of(c, t), TypeKind::Pseudo(_))
+    matches!(kind_of(c, ty), TypeKind::Pseudo(_))
 }
 
 /// Whether a type is one over which a record's kind may define one, and the name one which it may give.
@@ -88,24 +89,22 @@ pub fn has_good_base(c: &Catalog, r: &Record) -> bool
     }
 }
 
-fn is_called_any(c: &Catalog, t: TypeNo) -> bool
-    ensures { result ≡ is_called c.now t (codes "any") }
+fn is_called_any(c: &Catalog, ty: TypeNo) -> bool
+    ensures { result ≡ is_called c.now ty (codes "any") }
 {
-    name_of(c, t) == b"any".as_slice()
+    name_of(c, ty) == b"any".as_slice()
 }
 
-fn may_be_variadic(c: &Catalog, t: TypeNo) -> bool
-    ensures { result ≡ may_be_variadic c.now t }
+fn may_be_variadic(c: &Catalog, ty: TypeNo) -> bool
+    ensures { result ≡ may_be_variadic c.now ty }
 {
-    matches!(kind_of(c, t), TypeKind::Array { .. }) || has_variadic_name(name_of(c, t))
-}
-
-fn has_variadic_name(name: &[u8]) -> bool
-    ensures { result ≡ is_among variadic_names name.now }
-{
-    name == b"any".as_slice()
-        || name == b"anyarray".as_slice()
-        || name == b"anycompatiblearray".as_slice()
+    matches!(
+        kind_of(c, ty),
+        TypeKind::Array { .. }
+            | TypeKind::Pseudo(
+                PseudoType::Any | PseudoType::AnyArray | PseudoType::AnyCompatibleArray
+            )
+    )
 }
 
 fn has_good_last(c: &Catalog, variadic: bool, args: &[TypeNo]) -> bool
@@ -120,46 +119,25 @@ fn has_good_last(c: &Catalog, variadic: bool, args: &[TypeNo]) -> bool
     }
 }
 
-fn is_in_first_family(name: &[u8]) -> bool
-    ensures { result ≡ is_among first_family name.now }
+fn is_member(c: &Catalog, family: Family, ty: TypeNo) -> bool
+    ensures { result ≡ is_member family (kind_of c.now ty) }
 {
-    name == b"anyelement".as_slice()
-        || name == b"anyarray".as_slice()
-        || name == b"anynonarray".as_slice()
-        || name == b"anyrange".as_slice()
+    match kind_of(c, ty) {
+        TypeKind::Pseudo(pseudo) => pseudo.is_of(family),
+        _ => false,
+    }
 }
 
-fn has_first_argument(c: &Catalog, args: &[TypeNo]) -> bool
-    ensures { result ≡ list_any (λ arg. is_among first_family (name_of c.now arg)) args.now }
+fn has_argument(c: &Catalog, family: Family, args: &[TypeNo]) -> bool
+    ensures { result ≡ list_any (λ arg. is_member family (kind_of c.now arg)) args.now }
 {
-    args.iter().any(|arg| is_in_first_family(name_of(c, *arg)))
+    args.iter().any(|arg| is_member(c, family, *arg))
 }
 
-fn has_first_member(c: &Catalog, args: &[TypeNo], gives: TypeNo) -> bool
-    ensures { result ≡ has_member c.now first_family args.now gives }
+fn has_member(c: &Catalog, family: Family, args: &[TypeNo], gives: TypeNo) -> bool
+    ensures { result ≡ has_member c.now family args.now gives }
 {
-    !is_in_first_family(name_of(c, gives)) || has_first_argument(c, args)
-}
-
-fn is_in_second_family(name: &[u8]) -> bool
-    ensures { result ≡ is_among second_family name.now }
-{
-    name == b"anycompatible".as_slice()
-        || name == b"anycompatiblearray".as_slice()
-        || name == b"anycompatiblenonarray".as_slice()
-        || name == b"anycompatiblerange".as_slice()
-}
-
-fn has_second_argument(c: &Catalog, args: &[TypeNo]) -> bool
-    ensures { result ≡ list_any (λ arg. is_among second_family (name_of c.now arg)) args.now }
-{
-    args.iter().any(|arg| is_in_second_family(name_of(c, *arg)))
-}
-
-fn has_second_member(c: &Catalog, args: &[TypeNo], gives: TypeNo) -> bool
-    ensures { result ≡ has_member c.now second_family args.now gives }
-{
-    !is_in_second_family(name_of(c, gives)) || has_second_argument(c, args)
+    !is_member(c, family, gives) || has_argument(c, family, args)
 }
 
 fn has_good_signature(c: &Catalog, func: &FuncRow) -> bool
@@ -168,8 +146,8 @@ fn has_good_signature(c: &Catalog, func: &FuncRow) -> bool
     func.args.len() <= ARGUMENT_LIMIT as usize
         && has_good_last(c, func.variadic, func.args.as_slice())
         && !is_called_any(c, func.result)
-        && has_first_member(c, func.args.as_slice(), func.result)
-        && has_second_member(c, func.args.as_slice(), func.result)
+        && has_member(c, Family::First, func.args.as_slice(), func.result)
+        && has_member(c, Family::Second, func.args.as_slice(), func.result)
 }
 
 fn has_good_operands(c: &Catalog, oper: &OperRow) -> bool
@@ -189,10 +167,10 @@ fn may_be_binary(c: &Catalog, cast: &CastRow) -> bool
         || (is_text_type(name_of(c, cast.from)) && is_text_type(name_of(c, cast.to)))
 }
 
-fn is_castable(c: &Catalog, t: TypeNo) -> bool
-    ensures { result ≡ is_castable c.now t }
+fn is_castable(c: &Catalog, ty: TypeNo) -> bool
+    ensures { result ≡ is_castable c.now ty }
 {
-    !is_domain(c, t) && !is_pseudo_type(c, t)
+    !is_domain(c, ty) && !is_pseudo_type(c, ty)
 }
 
 fn has_good_types(c: &Catalog, cast: &CastRow) -> bool

@@ -46,6 +46,7 @@ abbrev pub loaded : Result Contents CatFault → Result Contents Ending
 loaded (Ok contents) = unless_check (first_check contents.domains) contents
 loaded (Err (fault.Row line cause)) = Err (BadCatalog line cause)
 loaded (Err (fault.TooManyRows line)) = Err (BadCatalog line why.TooMany)
+loaded (Err fault.Unread) = Err Memory
 loaded (Err fault.Memory) = Err Memory
 
 abbrev pub catalog_in : Files → List ℕ → Result Contents Ending

@@ -72,7 +72,7 @@ fn load_catalog<F: Shelf>(alloc: Global, name: &str, shelf: &mut F) -> Result<Ca
             line,
             why: Why::TooMany,
         }),
-        Err(CatFault::Memory) => Err(Ending::Memory),
+        Err(CatFault::Unread | CatFault::Memory) => Err(Ending::Memory),
     }
 }
 

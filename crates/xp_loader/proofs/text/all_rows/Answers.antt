@@ -4,6 +4,7 @@ use Rattle.csv.specs.Reading.{Reached, default_config, strip_bom}
 use Rattle.csv.specs.Records.{fields_of}
 use Rattle.csv.specs.declared.parser.State.TheVariants as st
 use Rattle.csv.proofs.ReadFacts.{rows-end, rows-more}
+use Rattle.xp_loader.proofs.Faults.{stops-reading}
 use Rattle.xp_loader.proofs.text.all_rows.Goals as goal
 
 pub loop-row-init : goal.loop-row-init
@@ -18,20 +19,28 @@ loop-row-init c =
       inr (inr (rw (c.flexible.ensures, c.has_headers.ensures) at fr.has_headers, fr.headers)),
       left,
       rw (c.flexible.ensures, c.has_headers.ensures) at fr.config ∙ c.new.ensures.config,
+      rw c.flexible.ensures at fr.flexible,
       strip_bom c.args.text.now,
       fr.source,
       (sym fr.state, refl),
     )
 
+pub read_fault-requires : goal.read_fault-requires
+read_fault-requires c =
+    let inv = c.loop-row.invariant in
+    let s = rw (c.in-Some.is, c.in-Err.is) at ((c.next.ensures.steps inv.2 inv.0).0 inv.1) in
+    stops-reading (λ (s : Bor (List ℕ)). Some s.now) c.loop-row.row-iterator.rdr c.next.new.self.rdr _ inv.4 s
+
 pub loop-row-preserved : goal.loop-row-preserved
 loop-row-preserved c =
     let inv = c.loop-row.invariant in
     let s = rw (c.in-Some.is, c.in-Ok.is) at ((c.next.ensures.steps inv.2 inv.0).0 inv.1) in
-    let m = rows-more (λ (s : Bor (List ℕ)). Some s.now) c.loop-row.row-iterator.rdr c.next.new.self.rdr (fields_of c.in-Ok.row) default_config st.StartRecord (strip_bom c.args.text.now) inv.4 (map fields_of c.loop-row.rows.items) inv.3 inv.5 inv.6 s.0 in
-    (s.0.3 ∙ inv.0, inl s.1, s.2, s.0.2 ∙ inv.3, m.0, m.1, rw (c.in_ok-push.ensures.items, map-append fields_of c.loop-row.rows.items (c.in-Ok.row ∷ [])) m.2)
+    let f = rw (c.in-Some.is, c.in-Ok.is) at ((c.next.ensures.steps inv.2 inv.0).3) in
+    let m = rows-more (λ (s : Bor (List ℕ)). Some s.now) c.loop-row.row-iterator.rdr c.next.new.self.rdr (fields_of c.in-Ok.row) default_config st.StartRecord (strip_bom c.args.text.now) inv.5 (map fields_of c.loop-row.rows.items) inv.3 inv.6 inv.7 s.0 in
+    (s.0.3 ∙ inv.0, inl s.1, s.2, s.0.2 ∙ inv.3, f ∙ inv.4, m.0, m.1, rw (c.in_ok-push-in-Ok.ensures.items, map-append fields_of c.loop-row.rows.items (c.in-Ok.row ∷ [])) m.2)
 
 pub returns : goal.returns
 returns c =
     let inv = c.loop-row.invariant in
     let s = rw c.in-None.is at ((c.next.ensures.steps inv.2 inv.0).0 inv.1) in
-    (c.loop-row.row-iterator.rdr.state, inv.4, inv.6, rows-end (λ (s : Bor (List ℕ)). Some s.now) c.loop-row.row-iterator.rdr c.next.new.self.rdr [] default_config inv.4 inv.3 inv.5 s)
+    (c.loop-row.row-iterator.rdr.state, inv.5, inv.7, rows-end (λ (s : Bor (List ℕ)). Some s.now) c.loop-row.row-iterator.rdr c.next.new.self.rdr [] default_config inv.5 inv.3 inv.6 s)
