@@ -12,3 +12,4 @@ pub mod Fix
 pub mod Turns
 pub mod Straight
 pub mod Built
+pub mod Tries

@@ -48,7 +48,7 @@ pub enum Kind {
 }
 
 /// Tokens between which the grammar makes no difference.
-#[derive(Clone, Copy, Debug)]
+#[derive(Clone, Copy, Debug, PartialEq, Eq)]
 pub enum Class {
     Only(Kind),
     /// Every name.

@@ -1,9 +1,12 @@
 //! What holds of the grammar, whatever parser reads by it.
-ghost use Rattle.std.specs.Prelude.{◌≡◌, ℕ, List, Ok, Err};
+ghost use Rattle.std.specs.Prelude.{◌≡◌, ℕ, Bool, List, Ok, Err};
 ghost use Rattle.xp_token.specs.declared.token.Token.{Token};
 ghost use Rattle.xp_grammar.specs.declared.statement.Statement.{Statement};
 ghost use Rattle.xp_grammar.specs.Reads.{Fault, IsStatement, read};
-ghost use Rattle.xp_grammar.specs.Table.{Value, Stated};
+ghost use Rattle.xp_grammar.specs.Table.{Level, Value, Stated};
+ghost use Rattle.xp_grammar.specs.declared.kind.Kind.{Kind};
+ghost use Rattle.xp_grammar.specs.Machine.{trie, tails, first};
+ghost use Rattle.xp_grammar.specs.Tries.{lines_of, turns_of, begins};
 
 /// A list of tokens is at most one statement. `read` finds it where there is one, and finds nothing
 /// else; where there is none it names the first token with which no statement continues, by the
@@ -19,4 +22,13 @@ pub fn grammar_has_one_reading()
 /// derived from its symbols. It does nothing: its contract is the law.
 pub fn derivation_builds_a_statement()
     ensures { (ts : List Token) (v : Value) → IsStatement ts v → (s : Statement) × (v ≡ Stated s) }
+{}
+
+/// What `read` goes by is computed from the table: the lines of a level, read together as far as
+/// they begin alike, how a level goes on, and the kinds that begin it. It does nothing: its contract
+/// is the law.
+pub fn reading_goes_by_the_table()
+    ensures lines { (m : Level) → trie m ≡ lines_of m }
+    ensures turns { (m : Level) (b : Bool) → tails m b ≡ turns_of m b }
+    ensures firsts { (m : Level) (a : Kind) → first m a ≡ begins m a }
 {}

@@ -11,6 +11,6 @@ mod types;
 
 pub use ast::{Arm, Ast, Exprs, Selection, Side, TruthTest};
 pub use kind::{Class, Kind, token_kind};
-pub use laws::{derivation_builds_a_statement, grammar_has_one_reading};
+pub use laws::{derivation_builds_a_statement, grammar_has_one_reading, reading_goes_by_the_table};
 pub use statement::{ExprLists, Item, ItemLists, Items, SelectArm, Statement};
 pub use types::{Moment, TypeModifier, TypeName, TypeWords};
