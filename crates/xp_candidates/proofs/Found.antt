@@ -1,27 +1,58 @@
--- The type that all known inputs have is one of the inputs.
-use Rattle.std.proofs.Common.{◌≡◌, List, [], ◌∷◌, Bool, true, false, not, cond, Option, Some, None, subst}
-use Rattle.std.specs.List.{All, find, list_any}
-use Rattle.std.proofs.lemmas.List.Elements.{All-head, All-tail}
+-- The type that all known inputs have, and that it is one of the inputs.
+use Rattle.std.proofs.Common.{◌≡◌, List, [], ◌∷◌, Bool, true, false, ◌&&◌, cond, Option, Some, None, refl, subst, sym, arith}
+use Rattle.std.specs.List.{All, filter, find, list_all}
+use Rattle.std.proofs.lemmas.Bool.Decides.{nat_tests}
+use Rattle.std.proofs.lemmas.List.Elements.{All-filter, All-head}
 use Rattle.xp_base.specs.declared.numbers.TypeNo.{TypeNo}
+use Rattle.xp_types.specs.Readers.{is_known, is_same}
 use Rattle.xp_candidates.specs.Known.{known_type, shared}
-use Rattle.xp_types.specs.Readers.{is_known}
 
-unless-none : {X : Type 0} (test : Bool) (some : Option X) (x : X) → cond test some None ≡ Some x → some ≡ Some x
-unless-none true some x is = is
-unless-none false some x is = cc
+by-first : (known : Bool) (type first : TypeNo) (types : List TypeNo) → ((find is_known types ≡ Some first) → (rest : List TypeNo) × (filter is_known types ≡ first ∷ rest)) → cond known (Some type) (find is_known types) ≡ Some first → (rest : List TypeNo) × (cond known (type ∷ filter is_known types) (filter is_known types) ≡ first ∷ rest)
+by-first true type first types later is = let same : type ≡ first = cc in (filter is_known types, rw same refl)
+by-first false type first types later is = later is
 
-found-step : {X : Type 0} (P : X → Type 0) (test : Bool) (y x : X) (rest : Option X) → P y → (rest ≡ Some x → P x) → cond test (Some y) rest ≡ Some x → P x
-found-step P true y x rest here onward is = let same : y ≡ x = cc in subst P same here
-found-step P false y x rest here onward is = onward is
+-- the first known one is the first of the known ones
+first-known : (types : List TypeNo) (first : TypeNo) → find is_known types ≡ Some first → (rest : List TypeNo) × (filter is_known types ≡ first ∷ rest)
+first-known [] first is = cc
+first-known (type ∷ types) first is = by-first (is_known type) type first types (first-known types first) is
 
-find-All : {X : Type 0} (P : X → Type 0) (test : X → Bool) (xs : List X) → All P xs → (x : X) → find test xs ≡ Some x → P x
-find-All P test [] each x is = cc
-find-All P test (y ∷ ys) each x is = found-step P (test y) y x (find test ys) (All-head P y ys each) (find-All P test ys (All-tail P y ys each) x) is
+by-none : (known : Bool) (type : TypeNo) (types : List TypeNo) → (find is_known types ≡ None → filter is_known types ≡ []) → cond known (Some type) (find is_known types) ≡ None → cond known (type ∷ filter is_known types) (filter is_known types) ≡ []
+by-none true type types later is = cc
+by-none false type types later is = later is
 
-shared-All : (P : TypeNo → Type 0) (first : Option TypeNo) (types : List TypeNo) → ((x : TypeNo) → first ≡ Some x → P x) → (x : TypeNo) → shared first types ≡ Some x → P x
-shared-All P None types found x is = cc
-shared-All P (Some type) types found x is = found x (unless-none _ (Some type) x is)
+none-known : (types : List TypeNo) → find is_known types ≡ None → filter is_known types ≡ []
+none-known [] is = refl
+none-known (type ∷ types) is = by-none (is_known type) type types (none-known types) is
+
+shared-first : (first : TypeNo) (rest : List TypeNo) → cond (list_all (is_same first) (first ∷ rest)) (Some first) None ≡ shared (first ∷ rest)
+shared-first first rest = let own : is_same first first ≡ true = grind (arith, nat_tests) in rw own refl
+
+-- without a known one there is none that they share
+pub none_shared : (types : List TypeNo) → find is_known types ≡ None → known_type types ≡ None
+none_shared types is = by (list_all is_known types)
+  where
+    by : (all : Bool) → cond all None (shared (filter is_known types)) ≡ None
+    by true = refl
+    by false = rw (none-known types is) refl
+
+-- what they share, by the first known one
+pub known_by : (types : List TypeNo) (all same : Bool) (first : TypeNo) → all ≡ list_all is_known types → all ≡ false → find is_known types ≡ Some first → same ≡ list_all (is_same first) (filter is_known types) → cond same (Some first) None ≡ known_type types
+known_by types all same first is_all some is is_same_as =
+    let found = first-known types first is in
+    rw (sym is_all, some, is_same_as, found.1) (shared-first first found.0)
+
+shared-All : (P : TypeNo → Type 0) (types : List TypeNo) → All P types → (x : TypeNo) → shared types ≡ Some x → P x
+shared-All P [] each x is = cc
+shared-All P (type ∷ types) each x is = by (list_all (is_same type) types) is
+  where
+    by : (test : Bool) → cond test (Some type) None ≡ Some x → P x
+    by true found = let same : type ≡ x = cc in subst P same (All-head P type types each)
+    by false found = cc
 
 -- what holds of each of them holds of it
 pub known_type-All : (P : TypeNo → Type 0) (types : List TypeNo) → All P types → (x : TypeNo) → known_type types ≡ Some x → P x
-known_type-All P types each x is = shared-All P (find is_known types) types (find-All P is_known types each) x (unless-none (list_any (λ type. not (is_known type)) types) (shared (find is_known types) types) x is)
+known_type-All P types each x is = by (list_all is_known types) is
+  where
+    by : (test : Bool) → cond test None (shared (filter is_known types)) ≡ Some x → P x
+    by true found = cc
+    by false found = shared-All P (filter is_known types) (All-filter is_known P types each) x found

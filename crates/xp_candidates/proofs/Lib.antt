@@ -1,8 +1,8 @@
 pub mod Found
 pub mod Places
+pub mod InOrder
 pub mod Listed
 pub mod Among
 pub mod Made
-pub mod OneType
 pub mod There
 pub mod Others

@@ -18,7 +18,7 @@ forms-more forms rows place row before after all at is so_far =
 
 All-option : (P : Candidate → Type 0) (form : Option Candidate) → ForSome form P → All P (option_to_list form)
 All-option P None some = All-nil P
-All-option P (Some cand) some = All-cons P cand [] (some cand refl) (All-nil P)
+All-option P (Some candidate) some = All-cons P candidate [] (some candidate refl) (All-nil P)
 
 -- what holds of each holds of each after one more, if there is one
 pub All-pushed : (P : Candidate → Type 0) (before after : List Candidate) (form : Option Candidate) → after ≡ before ++ option_to_list form → All P before → ForSome form P → All P after

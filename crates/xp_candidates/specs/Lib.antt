@@ -3,5 +3,5 @@ pub mod Known
 pub mod Accepted
 pub mod Slots
 pub mod Bound
-pub mod Marked
 pub mod Chosen
+pub mod inner

@@ -1,26 +1,24 @@
 //! The candidates that accept the inputs.
-ghost use Rattle.std.specs.Prelude.{◌≡◌, ◌<◌, ◌≤◌, IfOk, codes, false, length, map};
+ghost use Rattle.std.specs.Prelude.{◌≡◌, ◌<◌, ◌≤◌, IfOk, false, length, map};
 ghost use Rattle.std.specs.List.{All};
 ghost use Rattle.std.specs.Option.{ForSome};
 ghost use Rattle.xp_types.specs.Within.{AreTypes};
-ghost use Rattle.xp_catalog.specs.Rules.{is_called, last_of};
+ghost use Rattle.xp_catalog.specs.Rules.{last_of};
 ghost use Rattle.xp_poly.specs.Acceptance.{accepts};
-ghost use Rattle.xp_candidates.specs.Accepted.{IsCandidate, is_array_based, spreads, takes, takes_as};
+ghost use Rattle.xp_candidates.specs.Accepted.{IsCandidate, accepts_variadic_any, is_any, is_array_based, takes, takes_as};
 
 use crate::Candidate;
 use crate::known::taken_as;
 use std::alloc::{AllocError, Global};
 use xp_base::TypeNo;
-use xp_catalog::Catalog;
+use xp_catalog::{Catalog, PseudoType};
 use xp_poly::accepts;
-use xp_types::{base, is_array, is_known};
+use xp_types::{base, is_array, is_known, pseudo_type};
 
-/// Whether the type has that name in the catalogue.
-pub fn is_called(c: &Catalog, ty: TypeNo, name: &str) -> bool
-    requires { ty.0 < length c.now.types }
-    ensures { result ≡ is_called c.now ty name.now }
+fn is_any(of: Option<PseudoType>) -> bool
+    ensures { result ≡ is_any of }
 {
-    c.type_row(ty).name.as_str() == name
+    matches!(of, Some(PseudoType::Any))
 }
 
 fn is_array_based(c: &Catalog, ty: TypeNo) -> bool
@@ -31,43 +29,43 @@ fn is_array_based(c: &Catalog, ty: TypeNo) -> bool
 }
 
 /// Whether behind the word VARIADIC the last input may stand at the last type.
-fn spreads(c: &Catalog, declared: &[TypeNo], inputs: &[TypeNo]) -> bool
+fn accepts_variadic_any(c: &Catalog, declared: &[TypeNo], inputs: &[TypeNo]) -> bool
     requires declared { AreTypes c.now declared.now }
     requires inputs { AreTypes c.now inputs.now }
-    ensures { result ≡ spreads c.now (last_of declared.now) (last_of inputs.now) }
+    ensures { result ≡ accepts_variadic_any c.now (last_of declared.now) (last_of inputs.now) }
 {
     match (declared.last(), inputs.last()) {
-        (Some(ty), Some(input)) => !is_called(c, *ty, "any") || is_array_based(c, *input),
+        (Some(ty), Some(input)) => !is_any(pseudo_type(c, *ty)) || is_array_based(c, *input),
         _ => true,
     }
 }
 
-fn takes(c: &Catalog, cand: &Candidate, inputs: &[TypeNo], variadic: bool) -> bool
-    requires cand { IsCandidate c.now (length inputs.now) cand.now }
+fn takes(c: &Catalog, candidate: &Candidate, inputs: &[TypeNo], variadic: bool) -> bool
+    requires candidate { IsCandidate c.now (length inputs.now) candidate.now }
     requires inputs { AreTypes c.now inputs.now }
     requires room { length inputs.now ≤ 100 }
-    ensures { result ≡ takes c.now variadic inputs.now cand.now }
+    ensures { result ≡ takes c.now variadic inputs.now candidate.now }
 {
-    let declared = cand.declared.as_slice();
-    accepts(c, declared, inputs) && (!variadic || spreads(c, declared, inputs))
+    let declared = candidate.declared.as_slice();
+    accepts(c, declared, inputs) && (!variadic || accepts_variadic_any(c, declared, inputs))
 }
 
 /// Marks the candidates that accept the inputs.
 pub fn mark_taking(
     alloc: Global,
     c: &Catalog,
-    cands: &[Candidate],
+    candidates: &[Candidate],
     inputs: &[TypeNo],
     variadic: bool,
 ) -> Result<Vec<bool>, AllocError>
-    requires cands { All (IsCandidate c.now (length inputs.now)) cands.now }
+    requires candidates { All (IsCandidate c.now (length inputs.now)) candidates.now }
     requires inputs { AreTypes c.now inputs.now }
     requires room { length inputs.now ≤ 100 }
-    ensures { IfOk result (λ marks. marks.items ≡ map (takes c.now variadic inputs.now) cands.now) }
+    ensures { IfOk result (λ marks. marks.items ≡ map (takes c.now variadic inputs.now) candidates.now) }
 {
     let mut marks = Vec::new(alloc);
-    for cand in cands {
-        marks.push(takes(c, cand, inputs, variadic))?;
+    for candidate in candidates {
+        marks.push(takes(c, candidate, inputs, variadic))?;
     }
     Ok(marks)
 }
@@ -76,26 +74,26 @@ pub fn mark_taking(
 fn mark_accepting(
     alloc: Global,
     c: &Catalog,
-    cands: &[Candidate],
+    candidates: &[Candidate],
     types: &[TypeNo],
 ) -> Result<Vec<bool>, AllocError>
-    requires cands { All (IsCandidate c.now (length types.now)) cands.now }
+    requires candidates { All (IsCandidate c.now (length types.now)) candidates.now }
     requires types { AreTypes c.now types.now }
     requires room { length types.now ≤ 100 }
-    ensures { IfOk result (λ marks. marks.items ≡ map (λ cand. accepts c.now cand.declared types.now) cands.now) }
+    ensures { IfOk result (λ marks. marks.items ≡ map (λ candidate. accepts c.now candidate.declared types.now) candidates.now) }
 {
     let mut marks = Vec::new(alloc);
-    for cand in cands {
-        marks.push(accepts(c, cand.declared.as_slice(), types))?;
+    for candidate in candidates {
+        marks.push(accepts(c, candidate.declared.as_slice(), types))?;
     }
     Ok(marks)
 }
 
-fn mark_none(alloc: Global, cands: &[Candidate]) -> Result<Vec<bool>, AllocError>
-    ensures { IfOk result (λ marks. marks.items ≡ map (λ cand. false) cands.now) }
+fn mark_none(alloc: Global, candidates: &[Candidate]) -> Result<Vec<bool>, AllocError>
+    ensures { IfOk result (λ marks. marks.items ≡ map (λ candidate. false) candidates.now) }
 {
     let mut marks = Vec::new(alloc);
-    for _cand in cands {
+    for _candidate in candidates {
         marks.push(false)?;
     }
     Ok(marks)
@@ -106,21 +104,21 @@ fn mark_none(alloc: Global, cands: &[Candidate]) -> Result<Vec<bool>, AllocError
 pub fn mark_taking_as(
     alloc: Global,
     c: &Catalog,
-    cands: &[Candidate],
+    candidates: &[Candidate],
     inputs: &[TypeNo],
     known: Option<TypeNo>,
 ) -> Result<Vec<bool>, AllocError>
-    requires cands { All (IsCandidate c.now (length inputs.now)) cands.now }
+    requires candidates { All (IsCandidate c.now (length inputs.now)) candidates.now }
     requires inputs { AreTypes c.now inputs.now }
     requires room { length inputs.now ≤ 100 }
     requires known { ForSome known (λ type. type.0 < length c.now.types) }
-    ensures { IfOk result (λ marks. marks.items ≡ map (takes_as c.now known inputs.now) cands.now) }
+    ensures { IfOk result (λ marks. marks.items ≡ map (takes_as c.now known inputs.now) candidates.now) }
 {
     match known {
         Some(ty) => {
             let types = taken_as(alloc, c, ty, inputs)?;
-            mark_accepting(alloc, c, cands, types.as_slice())
+            mark_accepting(alloc, c, candidates, types.as_slice())
         }
-        None => mark_none(alloc, cands),
+        None => mark_none(alloc, candidates),
     }
 }

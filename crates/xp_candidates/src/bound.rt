@@ -8,37 +8,41 @@ ghost use Rattle.xp_candidates.specs.Bound.{binds, has_array, is_element, is_of_
 ghost use Rattle.xp_types.specs.Readers.{is_known};
 
 use crate::Candidate;
-use crate::accepted::is_called;
-use xp_base::TypeNo;
-use xp_catalog::Catalog;
+use xp_base::{ARGUMENT_LIMIT, TypeNo};
+use xp_catalog::{Catalog, PseudoType};
 use xp_poly::{Binding, bind};
-use xp_types::{array_of, is_known};
+use xp_types::{UNKNOWN, array_of, is_known, pseudo_type};
 
-fn is_element(c: &Catalog, ty: TypeNo) -> bool
-    requires { ty.0 < length c.now.types }
-    ensures { result ≡ is_element c.now ty }
+/// Room for a type at each input of a call.
+const ROOM: usize = ARGUMENT_LIMIT as usize;
+
+fn is_element(of: Option<PseudoType>) -> bool
+    ensures { result ≡ is_element of }
 {
-    is_called(c, ty, "anyelement") || is_called(c, ty, "anycompatible")
+    matches!(
+        of,
+        Some(PseudoType::AnyElement) | Some(PseudoType::AnyCompatible)
+    )
 }
 
 /// Whether its last arguments stand for those of a polymorphic array.
-fn is_of_elements(c: &Catalog, cand: &Candidate) -> bool
-    requires { AreTypes c.now cand.now.declared }
-    ensures { result ≡ is_of_elements c.now cand.now }
+fn is_of_elements(c: &Catalog, candidate: &Candidate) -> bool
+    requires { AreTypes c.now candidate.now.declared }
+    ensures { result ≡ is_of_elements c.now candidate.now }
 {
-    match cand.declared.as_slice().last() {
-        Some(ty) => cand.expanded != 0 && is_element(c, *ty),
+    match candidate.declared.as_slice().last() {
+        Some(ty) => candidate.expanded != 0 && is_element(pseudo_type(c, *ty)),
         None => false,
     }
 }
 
 /// Whether the type that the expanded arguments are bound to has an array type, where it must.
-fn has_array(c: &Catalog, cand: &Candidate, types: &[TypeNo]) -> bool
-    requires cand { AreTypes c.now cand.now.declared }
+fn has_array(c: &Catalog, candidate: &Candidate, types: &[TypeNo]) -> bool
+    requires candidate { AreTypes c.now candidate.now.declared }
     requires types { AreTypes c.now types.now }
-    ensures { result ≡ has_array c.now cand.now types.now }
+    ensures { result ≡ has_array c.now candidate.now types.now }
 {
-    if !is_of_elements(c, cand) {
+    if !is_of_elements(c, candidate) {
         return true;
     }
     match types.last() {
@@ -54,26 +58,32 @@ fn all_known(types: &[TypeNo]) -> bool
 }
 
 /// Whether the types that the candidate is bound to are there.
-fn are_there(c: &Catalog, cand: &Candidate, yields: TypeNo, types: &[TypeNo]) -> bool
-    requires cand { AreTypes c.now cand.now.declared }
+fn are_there(c: &Catalog, candidate: &Candidate, result_type: TypeNo, types: &[TypeNo]) -> bool
+    requires candidate { AreTypes c.now candidate.now.declared }
     requires types { AreTypes c.now types.now }
-    ensures { result ≡ is_there c.now cand.now (Binding.Concrete yields) types.now }
+    ensures { result ≡ is_there c.now candidate.now (Binding.Concrete result_type) types.now }
 {
-    is_known(yields) && all_known(types) && has_array(c, cand, types)
+    is_known(result_type) && all_known(types) && has_array(c, candidate, types)
 }
 
 /// Whether each type that the candidate is bound to, by inputs that it accepts, is there.
-pub fn binds(c: &Catalog, cand: &Candidate, inputs: &[TypeNo]) -> bool
-    requires cand { IsCandidate c.now (length inputs.now) cand.now }
+pub fn binds(c: &Catalog, candidate: &Candidate, inputs: &[TypeNo]) -> bool
+    requires candidate { IsCandidate c.now (length inputs.now) candidate.now }
     requires inputs { AreTypes c.now inputs.now }
     requires room { length inputs.now ≤ 100 }
-    requires accepted { accepts c.now cand.now.declared inputs.now ≡ true }
-    ensures { result ≡ binds c.now inputs.now cand.now }
+    requires accepted { accepts c.now candidate.now.declared inputs.now ≡ true }
+    ensures { result ≡ binds c.now inputs.now candidate.now }
 {
-    let mut out = [TypeNo(0); 100];
+    let mut out = [UNKNOWN; ROOM];
     let types = &mut out[..inputs.len()];
-    match bind(c, cand.declared.as_slice(), cand.yields, inputs, types) {
-        Binding::Concrete(yields) => are_there(c, cand, yields, types),
+    match bind(
+        c,
+        candidate.declared.as_slice(),
+        candidate.result_type,
+        inputs,
+        types,
+    ) {
+        Binding::Concrete(result_type) => are_there(c, candidate, result_type, types),
         Binding::Indeterminate => true,
     }
 }

@@ -12,17 +12,17 @@ pub struct Candidate {
     /// One type per input.
     pub declared: Items<TypeNo>,
     /// The type of the result, as declared.
-    pub yields: TypeNo,
+    pub result_type: TypeNo,
     /// How many inputs stand for the elements of a variadic parameter, and 0 where none do.
     pub expanded: u32,
 }
 
 /// Adds a candidate at the end, where there is one.
-pub fn push_some(cands: &mut Vec<Candidate>, form: Option<Candidate>) -> Result<(), AllocError>
-    ensures { OnOk result (cands.new.items ≡ cands.old.items ++ option_to_list form) }
+pub fn push_some(candidates: &mut Vec<Candidate>, form: Option<Candidate>) -> Result<(), AllocError>
+    ensures { OnOk result (candidates.new.items ≡ candidates.old.items ++ option_to_list form) }
 {
-    if let Some(cand) = form {
-        cands.push(cand)?;
+    if let Some(candidate) = form {
+        candidates.push(candidate)?;
     }
     Ok(())
 }

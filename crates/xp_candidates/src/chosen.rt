@@ -5,8 +5,8 @@ ghost use Rattle.xp_types.specs.Within.{AreTypes};
 ghost use Rattle.xp_overload.specs.Places.{kept};
 ghost use Rattle.xp_candidates.specs.Known.{bases};
 ghost use Rattle.xp_candidates.specs.Accepted.{IsCandidate};
-ghost use Rattle.xp_candidates.specs.Bound.{AcceptsOne};
-ghost use Rattle.xp_candidates.specs.Chosen.{Answers, chosen, is_of, narrowed, outcome, remaining, row_at};
+ghost use Rattle.xp_candidates.specs.Chosen.{Answers, chosen, is_of, narrowed, remaining};
+ghost use Rattle.xp_candidates.specs.inner.Marked.{AcceptsOne, IsWithin, outcome_at, those};
 
 use crate::accepted::{mark_taking, mark_taking_as};
 use crate::bound::binds;
@@ -15,7 +15,7 @@ use crate::marked::{Marked, first_two};
 use crate::slots::{all_slots, slots_of};
 use crate::{Candidate, Pick, Picked};
 use std::alloc::{AllocError, Global};
-use xp_base::{RowNo, TypeNo};
+use xp_base::TypeNo;
 use xp_catalog::Catalog;
 use xp_overload::choose;
 
@@ -23,19 +23,19 @@ use xp_overload::choose;
 fn narrow(
     alloc: Global,
     c: &Catalog,
-    cands: &[Candidate],
+    candidates: &[Candidate],
     inputs: &[TypeNo],
     keep: &mut [bool],
 ) -> Result<(), AllocError>
-    requires cands { All (IsCandidate c.now (length inputs.now)) cands.now }
+    requires candidates { All (IsCandidate c.now (length inputs.now)) candidates.now }
     requires inputs { AreTypes c.now inputs.now }
     requires room { length inputs.now ≤ 100 }
-    requires lengths { length keep.old ≡ length cands.now }
+    requires lengths { length keep.old ≡ length candidates.now }
     requires several { 2 ≤ length (kept keep.old) }
-    ensures { OnOk result (kept keep.new ≡ narrowed c.now inputs.now cands.now (kept keep.old)) }
+    ensures { OnOk result (those candidates.now (kept keep.new) ≡ narrowed c.now inputs.now (those candidates.now (kept keep.old))) }
 {
-    let as_known = mark_taking_as(alloc, c, cands, inputs, known_type(inputs))?;
-    let slots = all_slots(alloc, c, inputs.len(), cands)?;
+    let as_known = mark_taking_as(alloc, c, candidates, inputs, known_type(inputs))?;
+    let slots = all_slots(alloc, c, inputs.len(), candidates)?;
     let input_slots = slots_of(alloc, c, inputs)?;
     choose(&slots, input_slots.as_slice(), &as_known, keep);
     Ok(())
@@ -45,20 +45,20 @@ fn narrow(
 fn narrow_several(
     alloc: Global,
     c: &Catalog,
-    cands: &[Candidate],
+    candidates: &[Candidate],
     inputs: &[TypeNo],
     keep: &mut [bool],
 ) -> Result<(), AllocError>
-    requires cands { All (IsCandidate c.now (length inputs.now)) cands.now }
+    requires candidates { All (IsCandidate c.now (length inputs.now)) candidates.now }
     requires inputs { AreTypes c.now inputs.now }
     requires room { length inputs.now ≤ 100 }
-    requires lengths { length keep.old ≡ length cands.now }
-    ensures { OnOk result (kept keep.new ≡ narrowed c.now (bases c.now inputs.now) cands.now (kept keep.old)) }
+    requires lengths { length keep.old ≡ length candidates.now }
+    ensures { OnOk result (those candidates.now (kept keep.new) ≡ narrowed c.now (bases c.now inputs.now) (those candidates.now (kept keep.old))) }
 {
     match first_two(keep) {
         Marked::Several { .. } => {
             let types = bases(alloc, c, inputs)?;
-            narrow(alloc, c, cands, types.as_slice(), keep)
+            narrow(alloc, c, candidates, types.as_slice(), keep)
         }
         _ => Ok(()),
     }
@@ -68,55 +68,50 @@ fn narrow_several(
 fn mark_remaining(
     alloc: Global,
     c: &Catalog,
-    cands: &[Candidate],
+    candidates: &[Candidate],
     inputs: &[TypeNo],
     variadic: bool,
 ) -> Result<Vec<bool>, AllocError>
-    requires cands { All (IsCandidate c.now (length inputs.now)) cands.now }
+    requires candidates { All (IsCandidate c.now (length inputs.now)) candidates.now }
     requires inputs { AreTypes c.now inputs.now }
     requires room { length inputs.now ≤ 100 }
-    ensures { IfOk result (λ keep. kept keep.items ≡ remaining c.now variadic inputs.now cands.now) }
+    ensures value { IfOk result (λ keep. those candidates.now (kept keep.items) ≡ remaining c.now variadic inputs.now candidates.now) }
+    ensures length { IfOk result (λ keep. length keep.items ≡ length candidates.now) }
 {
-    let mut keep = mark_taking(alloc, c, cands, inputs, variadic)?;
-    narrow_several(alloc, c, cands, inputs, &mut keep)?;
+    let mut keep = mark_taking(alloc, c, candidates, inputs, variadic)?;
+    narrow_several(alloc, c, candidates, inputs, &mut keep)?;
     Ok(keep)
 }
 
-/// The record of the candidate at a place.
-pub fn row_at(cands: &[Candidate], place: usize) -> RowNo
-    ensures { result ≡ row_at cands.now place }
-{
-    match cands.get(place) {
-        Some(cand) => cand.row,
-        None => RowNo(0),
-    }
-}
-
+/// What the choice comes to where these are left.
 fn outcome(
     c: &Catalog,
-    cands: &[Candidate],
+    candidates: &[Candidate],
     inputs: &[TypeNo],
     marked: Marked,
 ) -> Result<Picked, Pick>
-    requires cands { All (IsCandidate c.now (length inputs.now)) cands.now }
+    requires candidates { All (IsCandidate c.now (length inputs.now)) candidates.now }
     requires inputs { AreTypes c.now inputs.now }
     requires room { length inputs.now ≤ 100 }
-    requires accepted { AcceptsOne c.now inputs.now cands.now marked }
-    ensures value { result ≡ outcome c.now inputs.now cands.now marked }
-    ensures among { IfOk result (λ picked. list_any (is_of picked) cands.now ≡ true) }
+    requires within { IsWithin (length candidates.now) marked }
+    requires accepted { AcceptsOne c.now inputs.now candidates.now marked }
+    ensures { result ≡ outcome_at c.now inputs.now candidates.now marked }
 {
     match marked {
         Marked::Nothing => Err(Pick::Undefined),
-        Marked::One(place) => match cands.get(place) {
-            Some(cand) if binds(c, cand, inputs) => Ok(Picked {
-                row: cand.row,
-                expanded: cand.expanded,
-            }),
-            _ => Err(Pick::Undefined),
-        },
+        Marked::One(place) => {
+            let candidate = &candidates[place];
+            if !binds(c, candidate, inputs) {
+                return Err(Pick::Undefined);
+            }
+            Ok(Picked {
+                row: candidate.row,
+                expanded: candidate.expanded,
+            })
+        }
         Marked::Several { first, second } => Err(Pick::Ambiguous {
-            first: row_at(cands, first),
-            second: row_at(cands, second),
+            first: candidates[first].row,
+            second: candidates[second].row,
         }),
     }
 }
@@ -126,16 +121,16 @@ fn outcome(
 pub fn choose_candidate(
     alloc: Global,
     c: &Catalog,
-    cands: &[Candidate],
+    candidates: &[Candidate],
     inputs: &[TypeNo],
     variadic: bool,
 ) -> Result<Picked, Pick>
-    requires cands { All (IsCandidate c.now (length inputs.now)) cands.now }
+    requires candidates { All (IsCandidate c.now (length inputs.now)) candidates.now }
     requires inputs { AreTypes c.now inputs.now }
     requires room { length inputs.now ≤ 100 }
-    ensures value { Answers (chosen c.now variadic inputs.now cands.now) result }
-    ensures among { IfOk result (λ picked. list_any (is_of picked) cands.now ≡ true) }
+    ensures value { Answers (chosen c.now variadic inputs.now candidates.now) result }
+    ensures among { IfOk result (λ picked. list_any (is_of picked) candidates.now ≡ true) }
 {
-    let keep = mark_remaining(alloc, c, cands, inputs, variadic)?;
-    outcome(c, cands, inputs, first_two(&keep))
+    let keep = mark_remaining(alloc, c, candidates, inputs, variadic)?;
+    outcome(c, candidates, inputs, first_two(&keep))
 }

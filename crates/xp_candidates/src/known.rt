@@ -1,9 +1,9 @@
 //! Unknown inputs, base types, and the type that all known inputs have.
-ghost use Rattle.std.specs.Prelude.{◌≡◌, ◌<◌, IfOk, Some, length, map, not};
-ghost use Rattle.std.specs.List.{find, list_any};
+ghost use Rattle.std.specs.Prelude.{◌≡◌, ◌<◌, IfOk, filter, length, map};
+ghost use Rattle.std.specs.List.{find, list_all};
 ghost use Rattle.xp_types.specs.Within.{AreTypes};
-ghost use Rattle.xp_candidates.specs.Known.{bases, known_type, shared, taken_as};
-ghost use Rattle.xp_types.specs.Readers.{is_known};
+ghost use Rattle.xp_candidates.specs.Known.{bases, known_type, taken_as};
+ghost use Rattle.xp_types.specs.Readers.{is_known, is_same};
 
 use sqlite_items::Items;
 use std::alloc::{AllocError, Global};
@@ -24,10 +24,10 @@ pub fn bases(alloc: Global, c: &Catalog, inputs: &[TypeNo]) -> Result<Items<Type
     Ok(types)
 }
 
-fn any_unknown(types: &[TypeNo]) -> bool
-    ensures { result ≡ list_any (λ type. not (is_known type)) types.now }
+fn all_known(types: &[TypeNo]) -> bool
+    ensures { result ≡ list_all is_known types.now }
 {
-    types.iter().any(|ty| !is_known(*ty))
+    types.iter().all(|ty| is_known(*ty))
 }
 
 fn first_known(types: &[TypeNo]) -> Option<TypeNo>
@@ -41,28 +41,31 @@ fn first_known(types: &[TypeNo]) -> Option<TypeNo>
     None
 }
 
-/// The type, where each known one is that type.
-fn shared(first: TypeNo, types: &[TypeNo]) -> Option<TypeNo>
-    ensures { result ≡ shared (Some first) types.now }
+/// Whether each known one is that type.
+fn known_are(first: TypeNo, types: &[TypeNo]) -> bool
+    ensures { result ≡ list_all (is_same first) (filter is_known types.now) }
 {
     for ty in types {
         if is_known(*ty) && *ty != first {
-            return None;
+            return false;
         }
     }
-    Some(first)
+    true
 }
 
 /// The type that all known ones have, where some are known and some are unknown.
+#[tactic(auto, using(crate::proofs::Found::none_shared))]
 pub fn known_type(types: &[TypeNo]) -> Option<TypeNo>
     ensures { result ≡ known_type types.now }
 {
-    if !any_unknown(types) {
+    if all_known(types) {
         return None;
     }
-    match first_known(types) {
-        Some(first) => shared(first, types),
-        None => None,
+    let first = first_known(types)?;
+    if known_are(first, types) {
+        Some(first)
+    } else {
+        None
     }
 }
 

@@ -1,8 +1,8 @@
 //! What follows from the definitions of the steps alone.
 ghost use Rattle.std.specs.Prelude.{◌≡◌, [], ◌∷◌};
-ghost use Rattle.xp_candidates.specs.Chosen.{accepting, chosen, outcome};
+ghost use Rattle.xp_candidates.specs.Chosen.{accepting, chosen, outcome, picked};
 
-use crate::{Candidate, Marked};
+use crate::Candidate;
 use xp_base::TypeNo;
 use xp_catalog::Catalog;
 
@@ -10,17 +10,17 @@ use xp_catalog::Catalog;
 /// that it is bound to isn't there. So it is never ambiguous.
 pub fn one_decides(
     c: &Catalog,
-    cands: &[Candidate],
+    candidates: &[Candidate],
     inputs: &[TypeNo],
     variadic: bool,
-    place: usize,
+    one: &Candidate,
 )
-    requires { accepting c.now variadic inputs.now cands.now ≡ place ∷ [] }
-    ensures { chosen c.now variadic inputs.now cands.now ≡ outcome c.now inputs.now cands.now (Marked.One place) }
+    requires { accepting c.now variadic inputs.now candidates.now ≡ one.now ∷ [] }
+    ensures { chosen c.now variadic inputs.now candidates.now ≡ picked c.now inputs.now one.now }
 {}
 
 /// Where no candidate accepts the inputs, none is chosen.
-pub fn none_decides(c: &Catalog, cands: &[Candidate], inputs: &[TypeNo], variadic: bool)
-    requires { accepting c.now variadic inputs.now cands.now ≡ [] }
-    ensures { chosen c.now variadic inputs.now cands.now ≡ outcome c.now inputs.now cands.now Marked.Nothing }
+pub fn none_decides(c: &Catalog, candidates: &[Candidate], inputs: &[TypeNo], variadic: bool)
+    requires { accepting c.now variadic inputs.now candidates.now ≡ [] }
+    ensures { chosen c.now variadic inputs.now candidates.now ≡ outcome c.now inputs.now [] }
 {}

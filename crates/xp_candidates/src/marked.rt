@@ -1,7 +1,7 @@
 //! What a mask marks.
-ghost use Rattle.std.specs.Prelude.{◌≡◌};
+ghost use Rattle.std.specs.Prelude.{◌≡◌, length};
 ghost use Rattle.xp_overload.specs.Places.{kept};
-ghost use Rattle.xp_candidates.specs.Marked.{first_two};
+ghost use Rattle.xp_candidates.specs.inner.Marked.{IsWithin, first_two};
 
 /// Whether none, one or more are marked, with the first two places.
 #[derive(Clone, Copy, Debug, PartialEq, Eq)]
@@ -13,7 +13,8 @@ pub enum Marked {
 
 /// The first two places that a mask marks.
 pub fn first_two(marks: &[bool]) -> Marked
-    ensures { result ≡ first_two (kept marks.now) }
+    ensures value { result ≡ first_two (kept marks.now) }
+    ensures within { IsWithin (length marks.now) result }
 {
     let mut found = None;
     for place in 0..marks.len() {

@@ -2,6 +2,7 @@
 ghost use Rattle.std.specs.Prelude.{◌≡◌};
 
 use std::alloc::AllocError;
+use thiserror::Error;
 use xp_base::RowNo;
 
 /// The record that is chosen.
@@ -13,12 +14,15 @@ pub struct Picked {
 }
 
 /// Why no record is chosen.
-#[derive(Clone, Copy, Debug, PartialEq, Eq)]
+#[derive(Clone, Copy, Debug, PartialEq, Eq, Error)]
 pub enum Pick {
     /// No candidate accepts the inputs (42883).
+    #[error("no candidate accepts these types")]
     Undefined,
     /// More than one candidate is left (42725). These are the first two, in file order.
+    #[error("more than one candidate is left")]
     Ambiguous { first: RowNo, second: RowNo },
+    #[error("out of memory")]
     Memory,
 }
 

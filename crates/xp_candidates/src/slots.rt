@@ -39,14 +39,14 @@ pub fn all_slots(
     alloc: Global,
     c: &Catalog,
     inputs: usize,
-    cands: &[Candidate],
+    candidates: &[Candidate],
 ) -> Result<Vec<CandSlots>, AllocError>
-    requires { All (IsCandidate c.now inputs) cands.now }
-    ensures { IfOk result (λ list. list.items ≡ map (λ cand. slots_of c.now cand.declared) cands.now) }
+    requires { All (IsCandidate c.now inputs) candidates.now }
+    ensures { IfOk result (λ list. list.items ≡ map (λ candidate. slots_of c.now candidate.declared) candidates.now) }
 {
     let mut list = Vec::new(alloc);
-    for cand in cands {
-        list.push(slots_of(alloc, c, cand.declared.as_slice())?)?;
+    for candidate in candidates {
+        list.push(slots_of(alloc, c, candidate.declared.as_slice())?)?;
     }
     Ok(list)
 }

@@ -1,2 +1,4 @@
 pub mod Others
+pub mod ExactAt
 pub mod Named
+pub mod Told

@@ -8,7 +8,6 @@ use Rattle.xp_catalog.specs.declared.record.Record.TheVariants as record_of
 use Rattle.xp_catalog.specs.Contents.{Contents, added}
 use Rattle.xp_candidates.specs.Chosen.{made_of}
 use Rattle.xp_candidates.specs.Forms.{forms_from}
-use Rattle.xp_candidates.specs.Marked.{first_two}
 use Rattle.xp_candidates.specs.declared.candidate.Candidate.{Candidate}
 use Rattle.xp_candidates.proofs.Listed.{forms-unpushed}
 use Rattle.xp_candidates.proofs.Others.{chosen-same}
@@ -34,10 +33,10 @@ module _ (c : Contents) (name : List ℕ) (func : FuncRow) (other : bytes_eq fun
       ap (λ plain. forms_from (named_forms c name count plain) 0 (c.funcs ++ func ∷ [])) (unexpanded-same count false)
       ∙ forms-unpushed (named_forms c name count (unexpanded c name count false)) 0 c.funcs func (no-form count (unexpanded c name count false))
 
-  among-same : (inputs : List TypeNo) (variadic : Bool) (cands : List Candidate) → picked_among (added c (record_of.Function func)) name inputs variadic cands ≡ picked_among c name inputs variadic cands
-  among-same inputs variadic cands =
-      ap (λ choice. exact_or cands (first_two (exact inputs cands)) (request_or (cast_request c name inputs variadic) (made_of (λ picked. Call picked.row picked.expanded) choice)))
-      (chosen-same c (c.funcs ++ func ∷ []) c.opers variadic inputs cands)
+  among-same : (inputs : List TypeNo) (variadic : Bool) (candidates : List Candidate) → picked_among (added c (record_of.Function func)) name inputs variadic candidates ≡ picked_among c name inputs variadic candidates
+  among-same inputs variadic candidates =
+      ap (λ choice. exact_or (exact inputs candidates) (request_or (cast_request c name inputs variadic) (made_of (λ picked. Call picked.row picked.expanded) choice)))
+      (chosen-same c (c.funcs ++ func ∷ []) c.opers variadic inputs candidates)
 
   pub picked-same : (inputs : List TypeNo) (variadic : Bool) → picked_function (added c (record_of.Function func)) name inputs variadic ≡ picked_function c name inputs variadic
   picked-same inputs variadic =

@@ -7,14 +7,16 @@ use Rattle.xp_base.specs.declared.numbers.TypeNo.{TypeNo}
 use Rattle.xp_catalog.specs.declared.rows.FuncRow.{FuncRow}
 use Rattle.xp_catalog.specs.Contents.{Contents}
 use Rattle.xp_catalog.specs.Lookups.{row_number, same_types, type_named}
-use Rattle.xp_catalog.specs.Rules.{is_called, last_of}
-use Rattle.xp_types.specs.Readers.{element}
+use Rattle.xp_catalog.specs.Rules.{last_of}
+use Rattle.xp_catalog.specs.declared.rows.PseudoType.{PseudoType}
+use Rattle.xp_catalog.specs.declared.rows.PseudoType.TheVariants.{Any, AnyArray, AnyCompatibleArray}
+use Rattle.xp_types.specs.Readers.{element, pseudo_type}
 use Rattle.xp_candidates.specs.Forms.{forms_from}
 use Rattle.xp_candidates.specs.declared.candidate.Candidate.{Candidate}
 
 -- a record as it stands
 abbrev pub unexpanded_of : ℕ → FuncRow → Candidate
-unexpanded_of place func = record { row = row_number place; declared = func.args; yields = func.result; expanded = 0 }
+unexpanded_of place func = record { row = row_number place; declared = func.args; result_type = func.result; expanded = 0 }
 
 abbrev pub is_meant : List ℕ → ℕ → Bool → FuncRow → Bool
 is_meant name count variadic func = bytes_eq func.name name && beq func.variadic variadic && (length func.args == count)
@@ -26,20 +28,22 @@ own_form name count variadic place func = cond (is_meant name count variadic fun
 abbrev pub unexpanded : Contents → List ℕ → ℕ → Bool → List Candidate
 unexpanded c name count variadic = forms_from (own_form name count variadic) 0 c.funcs
 
+abbrev pub element_by : Contents → TypeNo → Option PseudoType → Option TypeNo
+element_by c type (Some Any) = Some type
+element_by c type (Some AnyArray) = type_named c (codes "anyelement")
+element_by c type (Some AnyCompatibleArray) = type_named c (codes "anycompatible")
+element_by c type _ = element c type
+
 -- the type of one argument of a variadic parameter of that type
 abbrev pub element_of : Contents → TypeNo → Option TypeNo
-element_of c type =
-    cond (is_called c type (codes "any")) (Some type) (
-    cond (is_called c type (codes "anyarray")) (type_named c (codes "anyelement")) (
-    cond (is_called c type (codes "anycompatiblearray")) (type_named c (codes "anycompatible"))
-    (element c type)))
+element_of c type = element_by c type (pseudo_type c type)
 
 -- the last parameter replaced by that many of its element type
 abbrev pub expanded_of : ℕ → FuncRow → ℕ → TypeNo → Candidate
 expanded_of place func extra type = record {
   row = row_number place;
   declared = take (length func.args - 1) func.args ++ replicate extra type;
-  yields = func.result;
+  result_type = func.result;
   expanded = extra;
 }
 
@@ -50,11 +54,11 @@ expansion c count place func =
 
 -- one of these has the same arguments
 abbrev pub is_covered : List Candidate → Candidate → Bool
-is_covered plain cand = list_any (λ other. same_types other.declared cand.declared) plain
+is_covered plain candidate = list_any (λ other. same_types other.declared candidate.declared) plain
 
 abbrev pub unless_covered : List Candidate → Option Candidate → List Candidate
 unless_covered plain None = []
-unless_covered plain (Some cand) = cond (is_covered plain cand) [] (cand ∷ [])
+unless_covered plain (Some candidate) = cond (is_covered plain candidate) [] (candidate ∷ [])
 
 -- what a record gives: itself, or expanded where no record that isn't variadic has the same arguments
 abbrev pub forms_of : Contents → ℕ → List Candidate → ℕ → FuncRow → List Candidate

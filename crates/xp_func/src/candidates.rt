@@ -1,10 +1,9 @@
 //! The functions that a name and a number of arguments may mean.
-ghost use Rattle.std.specs.Prelude.{◌≡◌, ◌<◌, ◌≤◌, IfOk, codes, false, length};
+ghost use Rattle.std.specs.Prelude.{◌≡◌, ◌<◌, ◌≤◌, IfOk, length};
 ghost use Rattle.std.specs.List.{All};
 ghost use Rattle.std.specs.Option.{ForSome, option_to_list};
 ghost use Rattle.xp_catalog.specs.Known.{IsKnownFunc};
 ghost use Rattle.xp_catalog.specs.Lookups.{same_types};
-ghost use Rattle.xp_catalog.specs.Rules.{is_called};
 ghost use Rattle.xp_candidates.specs.Accepted.{IsCandidate};
 ghost use Rattle.xp_candidates.specs.Forms.{forms_from};
 ghost use Rattle.xp_func.specs.Candidates.{candidates, forms_of, is_covered, is_meant, named_forms, own_form, unexpanded, unexpanded_of};
@@ -30,12 +29,12 @@ fn is_meant(name: &str, count: usize, variadic: bool, func: &FuncRow) -> bool
 
 /// A record as it stands.
 fn unexpanded_of(alloc: Global, number: u32, func: &FuncRow) -> Result<Candidate, AllocError>
-    ensures { IfOk result (λ cand. cand ≡ unexpanded_of number func.now) }
+    ensures { IfOk result (λ candidate. candidate ≡ unexpanded_of number func.now) }
 {
     Ok(Candidate {
         row: RowNo(number),
         declared: Items::from_slice(alloc, func.args.as_slice())?,
-        yields: func.result,
+        result_type: func.result,
         expanded: 0,
     })
 }
@@ -51,11 +50,10 @@ fn own_form(
     func: &FuncRow,
 ) -> Result<Option<Candidate>, AllocError>
     requires known { IsKnownFunc c.now func.now }
-    requires one_type { is_called c.now func.now.result (codes "any") ≡ false }
     requires number { number < length c.now.funcs }
     ensures value { IfOk result (λ form. option_to_list form ≡ own_form name.now count variadic number func.now) }
     ensures known { IfOk result (λ form. ForSome form (IsCandidate c.now count)) }
-    ensures row { IfOk result (λ form. ForSome form (λ cand. cand.row.0 < length c.now.funcs)) }
+    ensures row { IfOk result (λ form. ForSome form (λ candidate. candidate.row.0 < length c.now.funcs)) }
 {
     if !is_meant(name, count, variadic, func) {
         return Ok(None);
@@ -71,25 +69,25 @@ fn unexpanded(
     count: usize,
     variadic: bool,
 ) -> Result<Vec<Candidate>, AllocError>
-    ensures value { IfOk result (λ cands. cands.items ≡ unexpanded c.now name.now count variadic) }
-    ensures known { IfOk result (λ cands. All (IsCandidate c.now count) cands.items) }
-    ensures rows { IfOk result (λ cands. All (λ cand. cand.row.0 < length c.now.funcs) cands.items) }
+    ensures value { IfOk result (λ list. list.items ≡ unexpanded c.now name.now count variadic) }
+    ensures known { IfOk result (λ list. All (IsCandidate c.now count) list.items) }
+    ensures rows { IfOk result (λ list. All (λ candidate. candidate.row.0 < length c.now.funcs) list.items) }
 {
-    let mut cands = Vec::new(alloc);
+    let mut candidates = Vec::new(alloc);
     for number in 0..c.counts().funcs {
         let func = c.func_row(RowNo(number));
         let form = own_form(alloc, c, name, count, variadic, number, func)?;
-        push_some(&mut cands, form)?;
+        push_some(&mut candidates, form)?;
     }
-    Ok(cands)
+    Ok(candidates)
 }
 
 /// Whether one of these has the same arguments.
-fn is_covered(plain: &[Candidate], cand: &Candidate) -> bool
-    ensures { result ≡ is_covered plain.now cand.now }
+fn is_covered(plain: &[Candidate], candidate: &Candidate) -> bool
+    ensures { result ≡ is_covered plain.now candidate.now }
 {
     for other in plain {
-        if same_types(other.declared.as_slice(), cand.declared.as_slice()) {
+        if same_types(other.declared.as_slice(), candidate.declared.as_slice()) {
             return true;
         }
     }
@@ -107,16 +105,15 @@ fn form_of(
     func: &FuncRow,
 ) -> Result<Option<Candidate>, AllocError>
     requires known { IsKnownFunc c.now func.now }
-    requires one_type { is_called c.now func.now.result (codes "any") ≡ false }
     requires number { number < length c.now.funcs }
     requires room { count ≤ 100 }
     ensures value { IfOk result (λ form. option_to_list form ≡ forms_of c.now count plain.now number func.now) }
     ensures known { IfOk result (λ form. ForSome form (IsCandidate c.now count)) }
-    ensures row { IfOk result (λ form. ForSome form (λ cand. cand.row.0 < length c.now.funcs)) }
+    ensures row { IfOk result (λ form. ForSome form (λ candidate. candidate.row.0 < length c.now.funcs)) }
 {
     if func.variadic {
         match expansion(alloc, c, count, number, func)? {
-            Some(cand) if !is_covered(plain, &cand) => Ok(Some(cand)),
+            Some(candidate) if !is_covered(plain, &candidate) => Ok(Some(candidate)),
             _ => Ok(None),
         }
     } else if func.args.len() == count {
@@ -137,12 +134,11 @@ fn named_form(
     func: &FuncRow,
 ) -> Result<Option<Candidate>, AllocError>
     requires known { IsKnownFunc c.now func.now }
-    requires one_type { is_called c.now func.now.result (codes "any") ≡ false }
     requires number { number < length c.now.funcs }
     requires room { count ≤ 100 }
     ensures value { IfOk result (λ form. option_to_list form ≡ named_forms c.now name.now count plain.now number func.now) }
     ensures known { IfOk result (λ form. ForSome form (IsCandidate c.now count)) }
-    ensures row { IfOk result (λ form. ForSome form (λ cand. cand.row.0 < length c.now.funcs)) }
+    ensures row { IfOk result (λ form. ForSome form (λ candidate. candidate.row.0 < length c.now.funcs)) }
 {
     if func.name.as_str() == name {
         form_of(alloc, c, count, plain, number, func)
@@ -160,17 +156,17 @@ fn forms(
     plain: &[Candidate],
 ) -> Result<Vec<Candidate>, AllocError>
     requires { count ≤ 100 }
-    ensures value { IfOk result (λ cands. cands.items ≡ forms_from (named_forms c.now name.now count plain.now) 0 c.now.funcs) }
-    ensures known { IfOk result (λ cands. All (IsCandidate c.now count) cands.items) }
-    ensures rows { IfOk result (λ cands. All (λ cand. cand.row.0 < length c.now.funcs) cands.items) }
+    ensures value { IfOk result (λ list. list.items ≡ forms_from (named_forms c.now name.now count plain.now) 0 c.now.funcs) }
+    ensures known { IfOk result (λ list. All (IsCandidate c.now count) list.items) }
+    ensures rows { IfOk result (λ list. All (λ candidate. candidate.row.0 < length c.now.funcs) list.items) }
 {
-    let mut cands = Vec::new(alloc);
+    let mut candidates = Vec::new(alloc);
     for number in 0..c.counts().funcs {
         let func = c.func_row(RowNo(number));
         let form = named_form(alloc, c, name, count, plain, number, func)?;
-        push_some(&mut cands, form)?;
+        push_some(&mut candidates, form)?;
     }
-    Ok(cands)
+    Ok(candidates)
 }
 
 /// The candidates in the order of their records. Behind the word VARIADIC they are the variadic
@@ -183,9 +179,9 @@ pub fn candidates(
     variadic: bool,
 ) -> Result<Vec<Candidate>, AllocError>
     requires { count ≤ 100 }
-    ensures value { IfOk result (λ cands. cands.items ≡ candidates c.now name.now count variadic) }
-    ensures known { IfOk result (λ cands. All (IsCandidate c.now count) cands.items) }
-    ensures rows { IfOk result (λ cands. All (λ cand. cand.row.0 < length c.now.funcs) cands.items) }
+    ensures value { IfOk result (λ list. list.items ≡ candidates c.now name.now count variadic) }
+    ensures known { IfOk result (λ list. All (IsCandidate c.now count) list.items) }
+    ensures rows { IfOk result (λ list. All (λ candidate. candidate.row.0 < length c.now.funcs) list.items) }
 {
     if variadic {
         return unexpanded(alloc, c, name, count, true);

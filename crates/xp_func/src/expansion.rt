@@ -1,18 +1,17 @@
 //! Variadic records with their last parameter as several arguments.
-ghost use Rattle.std.specs.Prelude.{◌≡◌, ◌+◌, ◌<◌, ◌≤◌, IfOk, IfSome, codes, false, length, replicate, take, ◌++◌};
+ghost use Rattle.std.specs.Prelude.{◌≡◌, ◌+◌, ◌<◌, ◌≤◌, IfOk, IfSome, length, replicate, take, ◌++◌};
 ghost use Rattle.std.specs.Option.{ForSome};
 ghost use Rattle.xp_types.specs.Within.{AreTypes};
 ghost use Rattle.xp_catalog.specs.Known.{IsKnownFunc};
-ghost use Rattle.xp_catalog.specs.Rules.{is_called};
 ghost use Rattle.xp_candidates.specs.Accepted.{IsCandidate};
 ghost use Rattle.xp_func.specs.Candidates.{element_of, expanded_of, expansion};
 
 use sqlite_items::Items;
 use std::alloc::{AllocError, Global};
 use xp_base::{RowNo, TypeNo};
-use xp_candidates::{Candidate, is_called};
-use xp_catalog::{Catalog, FuncRow};
-use xp_types::element;
+use xp_candidates::Candidate;
+use xp_catalog::{Catalog, FuncRow, PseudoType};
+use xp_types::{element, pseudo_type};
 
 /// The type of one argument of a variadic parameter of that type.
 fn element_of(c: &Catalog, ty: TypeNo) -> Option<TypeNo>
@@ -20,14 +19,11 @@ fn element_of(c: &Catalog, ty: TypeNo) -> Option<TypeNo>
     ensures value { result ≡ element_of c.now ty }
     ensures within { IfSome result (λ type. type.0 < length c.now.types) }
 {
-    if is_called(c, ty, "any") {
-        Some(ty)
-    } else if is_called(c, ty, "anyarray") {
-        c.type_named("anyelement")
-    } else if is_called(c, ty, "anycompatiblearray") {
-        c.type_named("anycompatible")
-    } else {
-        element(c, ty)
+    match pseudo_type(c, ty) {
+        Some(PseudoType::Any) => Some(ty),
+        Some(PseudoType::AnyArray) => c.type_named("anyelement"),
+        Some(PseudoType::AnyCompatibleArray) => c.type_named("anycompatible"),
+        _ => element(c, ty),
     }
 }
 
@@ -61,12 +57,11 @@ pub fn expansion(
     func: &FuncRow,
 ) -> Result<Option<Candidate>, AllocError>
     requires known { IsKnownFunc c.now func.now }
-    requires one_type { is_called c.now func.now.result (codes "any") ≡ false }
     requires number { number < length c.now.funcs }
     requires room { count ≤ 100 }
     ensures value { IfOk result (λ form. form ≡ expansion c.now count number func.now) }
     ensures known { IfOk result (λ form. ForSome form (IsCandidate c.now count)) }
-    ensures row { IfOk result (λ form. ForSome form (λ cand. cand.row.0 < length c.now.funcs)) }
+    ensures row { IfOk result (λ form. ForSome form (λ candidate. candidate.row.0 < length c.now.funcs)) }
 {
     let args = func.args.as_slice();
     if args.len() > count {
@@ -83,7 +78,7 @@ pub fn expansion(
     Ok(Some(Candidate {
         row: RowNo(number),
         declared: with_copies(alloc, c, &args[..front], ty, extra)?,
-        yields: func.result,
+        result_type: func.result,
         expanded: extra as u32,
     }))
 }

@@ -3,8 +3,8 @@ ghost use Rattle.std.specs.Prelude.{◌≡◌, ◌<◌, ◌≤◌, IfOk, length}
 ghost use Rattle.xp_types.specs.Within.{AreTypes};
 ghost use Rattle.std.specs.List.{All};
 ghost use Rattle.xp_candidates.specs.Accepted.{IsCandidate};
-ghost use Rattle.xp_candidates.specs.Chosen.{Answers};
-ghost use Rattle.xp_func.specs.Picked.{IsKnownPick, call_at, chosen_call, picked_among, picked_function, request_or};
+ghost use Rattle.xp_candidates.specs.Chosen.{Answers, IfAmbiguous};
+ghost use Rattle.xp_func.specs.Picked.{AreLeftOf, IsKnownPick, chosen_call, picked_among, picked_function, request_or};
 ghost use Rattle.xp_func.specs.Request.{cast_request};
 
 use crate::candidates::candidates;
@@ -12,7 +12,7 @@ use crate::exact::exact;
 use crate::request::cast_request;
 use std::alloc::Global;
 use xp_base::{RowNo, TypeNo};
-use xp_candidates::{Candidate, Marked, Pick, choose_candidate, row_at};
+use xp_candidates::{Candidate, Marked, Pick, choose_candidate};
 use xp_catalog::Catalog;
 
 /// What a call means.
@@ -25,36 +25,22 @@ pub enum PickedFunc {
     CastRequest(TypeNo),
 }
 
-fn call_at(c: &Catalog, cands: &[Candidate], place: usize) -> Result<PickedFunc, Pick>
-    requires { All (λ cand. cand.row.0 < length c.now.funcs) cands.now }
-    ensures value { result ≡ call_at cands.now place }
-    ensures within { IfOk result (IsKnownPick c.now) }
-{
-    match cands.get(place) {
-        Some(cand) => Ok(PickedFunc::Call {
-            row: cand.row,
-            expanded: cand.expanded,
-        }),
-        None => Err(Pick::Undefined),
-    }
-}
-
 /// Step 4: the choice among the candidates.
 fn choose_call(
     alloc: Global,
     c: &Catalog,
-    cands: &[Candidate],
+    candidates: &[Candidate],
     inputs: &[TypeNo],
     variadic: bool,
 ) -> Result<PickedFunc, Pick>
-    requires cands { All (IsCandidate c.now (length inputs.now)) cands.now }
-    requires rows { All (λ cand. cand.row.0 < length c.now.funcs) cands.now }
+    requires candidates { All (IsCandidate c.now (length inputs.now)) candidates.now }
+    requires rows { All (λ candidate. candidate.row.0 < length c.now.funcs) candidates.now }
     requires count { length inputs.now ≤ 100 }
     requires inputs { AreTypes c.now inputs.now }
-    ensures value { Answers (chosen_call c.now variadic inputs.now cands.now) result }
+    ensures value { Answers (chosen_call c.now variadic inputs.now candidates.now) result }
     ensures within { IfOk result (IsKnownPick c.now) }
 {
-    let picked = choose_candidate(alloc, c, cands, inputs, variadic)?;
+    let picked = choose_candidate(alloc, c, candidates, inputs, variadic)?;
     Ok(PickedFunc::Call {
         row: picked.row,
         expanded: picked.expanded,
@@ -66,20 +52,20 @@ fn request_or_choose(
     alloc: Global,
     c: &Catalog,
     name: &str,
-    cands: &[Candidate],
+    candidates: &[Candidate],
     inputs: &[TypeNo],
     variadic: bool,
 ) -> Result<PickedFunc, Pick>
-    requires cands { All (IsCandidate c.now (length inputs.now)) cands.now }
-    requires rows { All (λ cand. cand.row.0 < length c.now.funcs) cands.now }
+    requires candidates { All (IsCandidate c.now (length inputs.now)) candidates.now }
+    requires rows { All (λ candidate. candidate.row.0 < length c.now.funcs) candidates.now }
     requires count { length inputs.now ≤ 100 }
     requires inputs { AreTypes c.now inputs.now }
-    ensures value { Answers (request_or (cast_request c.now name.now inputs.now variadic) (chosen_call c.now variadic inputs.now cands.now)) result }
+    ensures value { Answers (request_or (cast_request c.now name.now inputs.now variadic) (chosen_call c.now variadic inputs.now candidates.now)) result }
     ensures within { IfOk result (IsKnownPick c.now) }
 {
     match cast_request(c, name, inputs, variadic) {
         Some(ty) => Ok(PickedFunc::CastRequest(ty)),
-        None => choose_call(alloc, c, cands, inputs, variadic),
+        None => choose_call(alloc, c, candidates, inputs, variadic),
     }
 }
 
@@ -88,23 +74,27 @@ fn pick_among(
     alloc: Global,
     c: &Catalog,
     name: &str,
-    cands: &[Candidate],
+    candidates: &[Candidate],
     inputs: &[TypeNo],
     variadic: bool,
 ) -> Result<PickedFunc, Pick>
-    requires cands { All (IsCandidate c.now (length inputs.now)) cands.now }
-    requires rows { All (λ cand. cand.row.0 < length c.now.funcs) cands.now }
+    requires candidates { All (IsCandidate c.now (length inputs.now)) candidates.now }
+    requires rows { All (λ candidate. candidate.row.0 < length c.now.funcs) candidates.now }
     requires count { length inputs.now ≤ 100 }
     requires inputs { AreTypes c.now inputs.now }
-    ensures value { Answers (picked_among c.now name.now inputs.now variadic cands.now) result }
+    ensures value { Answers (picked_among c.now name.now inputs.now variadic candidates.now) result }
     ensures within { IfOk result (IsKnownPick c.now) }
 {
-    match exact(alloc, cands, inputs)? {
-        Marked::Nothing => request_or_choose(alloc, c, name, cands, inputs, variadic),
-        Marked::One(place) => call_at(c, cands, place),
+    let marked = exact(alloc, candidates, inputs)?;
+    match marked {
+        Marked::Nothing => request_or_choose(alloc, c, name, candidates, inputs, variadic),
+        Marked::One(place) => Ok(PickedFunc::Call {
+            row: candidates[place].row,
+            expanded: candidates[place].expanded,
+        }),
         Marked::Several { first, second } => Err(Pick::Ambiguous {
-            first: row_at(cands, first),
-            second: row_at(cands, second),
+            first: candidates[first].row,
+            second: candidates[second].row,
         }),
     }
 }
@@ -123,7 +113,8 @@ pub fn pick_function(
     requires inputs { AreTypes c.now inputs.now }
     ensures value { Answers (picked_function c.now name.now inputs.now variadic) result }
     ensures within { IfOk result (IsKnownPick c.now) }
+    ensures ambiguous { IfAmbiguous result (AreLeftOf c.now name.now inputs.now variadic) }
 {
-    let cands = candidates(alloc, c, name, inputs.len(), variadic)?;
-    pick_among(alloc, c, name, &cands, inputs, variadic)
+    let candidates = candidates(alloc, c, name, inputs.len(), variadic)?;
+    pick_among(alloc, c, name, &candidates, inputs, variadic)
 }

@@ -13,7 +13,7 @@ use Rattle.xp_catalog.specs.Contents.{Contents}
 use Rattle.xp_catalog.specs.Lookups.{has_operands, oper_at, operands, row_number, same_types}
 use Rattle.xp_types.specs.Readers.{base}
 use Rattle.xp_types.proofs.Places.{place_holds}
-use Rattle.xp_candidates.specs.Chosen.{chosen, is_of, made_of}
+use Rattle.xp_candidates.specs.Chosen.{chosen, is_at, is_of, made_of}
 use Rattle.xp_candidates.specs.declared.candidate.Candidate.{Candidate}
 use Rattle.xp_candidates.specs.declared.pick.Pick.{Pick}
 use Rattle.xp_candidates.specs.declared.pick.Picked.{Picked}
@@ -21,7 +21,7 @@ use Rattle.xp_candidates.proofs.Among.{chosen-among}
 use Rattle.xp_candidates.proofs.Listed.{any-formed}
 use Rattle.xp_oper.specs.Candidates.{candidates, form_of, is_meant}
 use Rattle.xp_oper.specs.Exact.{assumed, both, exact, matched, may_match, other_operand}
-use Rattle.xp_oper.specs.Picked.{IsListed, chosen_operator, found_or, is_at, picked_operator}
+use Rattle.xp_oper.specs.Picked.{IsListed, chosen_operator, found_or, picked_operator}
 
 same-length : (xs ys : List TypeNo) → same_types xs ys ≡ true → length xs ≡ length ys
 same-length [] [] is = refl
@@ -74,9 +74,9 @@ assumed-listed c name inputs row (Some type) from is =
 matched-listed : (c : Contents) (name : List ℕ) (inputs : List TypeNo) (row : RowNo) → matched c name inputs ≡ Some row → IsListed c name (length inputs) row
 matched-listed c name inputs row is = either c name (length inputs) (exact c name inputs) (assumed c name (other_operand inputs)) row (exact-listed c name inputs row) (assumed-listed c name inputs row (other_operand inputs) refl) is
 
-row-any : (picked : Picked) (cands : List Candidate) → list_any (is_of picked) cands ≡ true → list_any (is_at picked.row) cands ≡ true
+row-any : (picked : Picked) (candidates : List Candidate) → list_any (is_of picked) candidates ≡ true → list_any (is_at picked.row) candidates ≡ true
 row-any picked [] is = is
-row-any picked (cand ∷ cands) is = grind (arith, nat_tests, is, row-any picked cands)
+row-any picked (candidate ∷ candidates) is = grind (arith, nat_tests, is, row-any picked candidates)
 
 made-listed : (c : Contents) (name : List ℕ) (count : ℕ) (choice : Result Picked Pick) → IfOk choice (λ picked. list_any (is_of picked) (candidates c name count) ≡ true) → IfOk (made_of (λ picked. picked.row) choice) (IsListed c name count)
 made-listed c name count (Ok picked) is = row-any picked (candidates c name count) is

@@ -43,7 +43,7 @@ module _ (c : Contents) (name : List ℕ) (oper : OperRow) (other : bytes_eq ope
 
   choice-same : (inputs : List TypeNo) → chosen_operator (added c (record_of.Operator oper)) name inputs ≡ chosen_operator c name inputs
   choice-same inputs =
-      ap (λ cands. made_of (λ picked. picked.row) (chosen (added c (record_of.Operator oper)) false inputs cands)) (candidates-same (length inputs))
+      ap (λ candidates. made_of (λ picked. picked.row) (chosen (added c (record_of.Operator oper)) false inputs candidates)) (candidates-same (length inputs))
       ∙ ap (made_of (λ picked. picked.row)) (chosen-same c c.funcs (c.opers ++ oper ∷ []) false inputs (candidates c name (length inputs)))
 
   pub picked-same : (inputs : List TypeNo) → picked_operator (added c (record_of.Operator oper)) name inputs ≡ picked_operator c name inputs

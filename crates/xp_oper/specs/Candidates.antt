@@ -11,11 +11,11 @@ use Rattle.xp_candidates.specs.Forms.{forms_from}
 use Rattle.xp_candidates.specs.declared.candidate.Candidate.{Candidate}
 
 -- an operator yields what its function yields
-abbrev pub yields_of : Contents → OperRow → TypeNo
-yields_of c oper = option_map_or (λ func. func.result) (slice_get c.funcs oper.function.0) unknown
+abbrev pub result_of : Contents → OperRow → TypeNo
+result_of c oper = option_map_or (λ func. func.result) (slice_get c.funcs oper.function.0) unknown
 
 abbrev pub candidate_of : Contents → ℕ → OperRow → Candidate
-candidate_of c place oper = record { row = row_number place; declared = operands oper.left oper.right; yields = yields_of c oper; expanded = 0 }
+candidate_of c place oper = record { row = row_number place; declared = operands oper.left oper.right; result_type = result_of c oper; expanded = 0 }
 
 abbrev pub is_meant : List ℕ → ℕ → OperRow → Bool
 is_meant name count oper = bytes_eq oper.name name && length (operands oper.left oper.right) == count

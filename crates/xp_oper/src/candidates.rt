@@ -4,7 +4,6 @@ ghost use Rattle.std.specs.List.{All};
 ghost use Rattle.std.specs.Option.{ForSome};
 ghost use Rattle.xp_catalog.specs.Known.{IsKnownOper};
 ghost use Rattle.xp_catalog.specs.Lookups.{operands};
-ghost use Rattle.xp_catalog.specs.WellFormed.{IsWellFormed};
 ghost use Rattle.xp_candidates.specs.Accepted.{IsCandidate};
 ghost use Rattle.xp_oper.specs.Candidates.{candidate_of, candidates, form_of, is_meant};
 
@@ -44,15 +43,14 @@ fn candidate_of(
     number: u32,
     oper: &OperRow,
 ) -> Result<Candidate, AllocError>
-    requires known { IsKnownOper c.now oper.now }
-    requires rules { IsWellFormed c.now }
-    ensures value { IfOk result (λ cand. cand ≡ candidate_of c.now number oper.now) }
+    requires { IsKnownOper c.now oper.now }
+    ensures value { IfOk result (λ candidate. candidate ≡ candidate_of c.now number oper.now) }
     ensures known { IfOk result (IsCandidate c.now (length (operands oper.now.left oper.now.right))) }
 {
     Ok(Candidate {
         row: RowNo(number),
         declared: operands(alloc, oper)?,
-        yields: c.func_row(oper.function).result,
+        result_type: c.func_row(oper.function).result,
         expanded: 0,
     })
 }
@@ -67,11 +65,10 @@ fn form_of(
     oper: &OperRow,
 ) -> Result<Option<Candidate>, AllocError>
     requires known { IsKnownOper c.now oper.now }
-    requires rules { IsWellFormed c.now }
     requires number { number < length c.now.opers }
     ensures value { IfOk result (λ form. option_to_list form ≡ form_of c.now name.now count number oper.now) }
     ensures known { IfOk result (λ form. ForSome form (IsCandidate c.now count)) }
-    ensures row { IfOk result (λ form. ForSome form (λ cand. cand.row.0 < length c.now.opers)) }
+    ensures row { IfOk result (λ form. ForSome form (λ candidate. candidate.row.0 < length c.now.opers)) }
 {
     if !is_meant(name, count, oper) {
         return Ok(None);
@@ -86,15 +83,15 @@ pub fn candidates(
     name: &str,
     count: usize,
 ) -> Result<Vec<Candidate>, AllocError>
-    ensures value { IfOk result (λ cands. cands.items ≡ candidates c.now name.now count) }
-    ensures known { IfOk result (λ cands. All (IsCandidate c.now count) cands.items) }
-    ensures rows { IfOk result (λ cands. All (λ cand. cand.row.0 < length c.now.opers) cands.items) }
+    ensures value { IfOk result (λ list. list.items ≡ candidates c.now name.now count) }
+    ensures known { IfOk result (λ list. All (IsCandidate c.now count) list.items) }
+    ensures rows { IfOk result (λ list. All (λ candidate. candidate.row.0 < length c.now.opers) list.items) }
 {
-    let mut cands = Vec::new(alloc);
+    let mut candidates = Vec::new(alloc);
     for number in 0..c.counts().opers {
         let oper = c.oper_row(RowNo(number));
         let form = form_of(alloc, c, name, count, number, oper)?;
-        push_some(&mut cands, form)?;
+        push_some(&mut candidates, form)?;
     }
-    Ok(cands)
+    Ok(candidates)
 }

@@ -2,14 +2,17 @@
 ghost use Rattle.std.specs.Prelude.{◌≡◌, IfOk, false, length};
 ghost use Rattle.std.specs.Str.{bytes_eq};
 ghost use Rattle.xp_catalog.specs.Contents.{added};
-ghost use Rattle.xp_oper.specs.Picked.{IsListed, picked_operator};
+ghost use Rattle.xp_candidates.specs.Chosen.{IfAmbiguous};
+ghost use Rattle.xp_oper.specs.Picked.{AreLeftOf, IsListed, picked_operator};
 
 use xp_base::TypeNo;
 use xp_catalog::{Catalog, OperRow, Record};
 
-/// What is picked is one of the operators of that name over that many operands.
+/// What is picked is one of the operators of that name over that many operands. Two that are told
+/// are two of them that the steps leave.
 pub fn a_candidate_is_picked(c: &Catalog, name: &str, inputs: &[TypeNo])
-    ensures { IfOk (picked_operator c.now name.now inputs.now) (IsListed c.now name.now (length inputs.now)) }
+    ensures picked { IfOk (picked_operator c.now name.now inputs.now) (IsListed c.now name.now (length inputs.now)) }
+    ensures ambiguous { IfAmbiguous (picked_operator c.now name.now inputs.now) (AreLeftOf c.now name.now inputs.now) }
 {}
 
 /// One more operator of another name changes no pick.

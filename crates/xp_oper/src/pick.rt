@@ -1,8 +1,8 @@
 //! The steps in their order.
 ghost use Rattle.std.specs.Prelude.{◌≡◌, ◌<◌, ◌≤◌, IfOk, length};
 ghost use Rattle.xp_types.specs.Within.{AreTypes};
-ghost use Rattle.xp_candidates.specs.Chosen.{Answers};
-ghost use Rattle.xp_oper.specs.Picked.{chosen_operator, picked_operator};
+ghost use Rattle.xp_candidates.specs.Chosen.{Answers, IfAmbiguous};
+ghost use Rattle.xp_oper.specs.Picked.{AreLeftOf, chosen_operator, picked_operator};
 
 use crate::candidates::candidates;
 use crate::exact::matched;
@@ -18,8 +18,8 @@ fn choose_operator(alloc: Global, c: &Catalog, name: &str, inputs: &[TypeNo]) ->
     ensures value { Answers (chosen_operator c.now name.now inputs.now) result }
     ensures within { IfOk result (λ row. row.0 < length c.now.opers) }
 {
-    let cands = candidates(alloc, c, name, inputs.len())?;
-    let picked = choose_candidate(alloc, c, &cands, inputs, false)?;
+    let candidates = candidates(alloc, c, name, inputs.len())?;
+    let picked = choose_candidate(alloc, c, &candidates, inputs, false)?;
     Ok(picked.row)
 }
 
@@ -34,6 +34,7 @@ pub fn pick_operator(
     requires count { length inputs.now ≤ 2 }
     requires inputs { AreTypes c.now inputs.now }
     ensures value { Answers (picked_operator c.now name.now inputs.now) result }
+    ensures ambiguous { IfAmbiguous result (AreLeftOf c.now name.now inputs.now) }
     ensures within { IfOk result (λ row. row.0 < length c.now.opers) }
 {
     match matched(c, name, inputs) {

@@ -1,3 +1,4 @@
 pub mod Marks
-pub mod ShortLists
 pub mod Left
+pub mod Mapped
+pub mod Survivors

@@ -1,76 +1,47 @@
 -- The category selected at each unknown position, and the candidates that take it (manual 10.2 step 3.e, 10.3 step 4.e).
-use Rattle.std.specs.Prelude.{ℕ, ◌+◌, List, [], ◌∷◌, Bool, true, false, ◌==◌, ◌&&◌, ◌||◌, not, cond, Option, Some, None, filter, map, slice_index_or}
-use Rattle.std.specs.List.{zip, list_any, list_all}
-use Rattle.xp_overload.specs.Places.{slots_at}
+use Rattle.std.specs.Prelude.{ℕ, List, [], ◌∷◌, Bool, true, false, ◌==◌, ◌&&◌, ◌||◌, not, cond, Option, Some, None, filter, map, slice_index_or}
+use Rattle.std.specs.Option.{option_map_or}
+use Rattle.std.specs.List.{enumerate_from, zip, list_any, list_all}
 use Rattle.xp_overload.specs.Matches.{is_known}
 use Rattle.xp_overload.specs.declared.slots.InSlot.{InSlot}
-use Rattle.xp_overload.specs.declared.demands.Wanted.{Wanted}
-use Rattle.xp_overload.specs.declared.demands.Wanted.TheVariants.{Category, OtherCategory, PreferredOf}
-use Rattle.xp_overload.specs.declared.demands.Demand.{Demand}
-use Rattle.xp_overload.specs.declared.demands.Demand.TheVariants.{Anything, Slot, Nothing}
 
--- stands where a candidate has no slot, which no position of the inputs is
+-- stands where a candidate declares nothing, which it does at no position of the inputs
 abbrev pub no_slot : InSlot
 no_slot = record { ty = record { 0 = 0 }; category = 0; preferred = false }
 
--- the slot that the candidate at a place has at a position
-abbrev pub slot_at : List (List InSlot) → ℕ → ℕ → InSlot
-slot_at cands position place = slice_index_or (slots_at cands place) position no_slot
+-- what the candidates declare at a position
+abbrev pub column : {A : Type 0} → (A → List InSlot) → ℕ → List A → List InSlot
+column declared position candidates = map (λ candidate. slice_index_or (declared candidate) position no_slot) candidates
 
--- the slots that the candidates have at a position
-abbrev pub column : List (List InSlot) → ℕ → List ℕ → List InSlot
-column cands position places = map (slot_at cands position) places
+abbrev pub is_of : ℕ → InSlot → Bool
+is_of category slot = slot.category == category
 
-abbrev pub is_wanted : Wanted → InSlot → Bool
-is_wanted (Category category) slot = slot.category == category
-is_wanted (OtherCategory category) slot = not (slot.category == category)
-is_wanted (PreferredOf category) slot = slot.preferred && (slot.category == category)
+-- the category that all have
+abbrev pub shared_category : List InSlot → Option ℕ
+shared_category [] = None
+shared_category (slot ∷ slots) = cond (list_all (is_of slot.category) slots) (Some slot.category) None
 
-abbrev pub first_of : List InSlot → Option InSlot
-first_of [] = None
-first_of (slot ∷ _) = Some slot
-
--- the category of the first where no slot has another
-abbrev pub shared_with : Option InSlot → List InSlot → Option ℕ
-shared_with None slots = None
-shared_with (Some first) slots = cond (list_any (is_wanted (OtherCategory first.category)) slots) None (Some first.category)
-
--- the category selected at a position: string (S) where a candidate has it there, else the one that all have
+-- "at each position, select the string category (S) if any candidate accepts that category; otherwise, if all the remaining candidates accept the same type category, select that category"
 abbrev pub selected : List InSlot → Option ℕ
-selected slots = cond (list_any (is_wanted (Category 83)) slots) (Some 83) (shared_with (first_of slots) slots)
+selected slots = cond (list_any (is_of 83) slots) (Some 83) (shared_category slots)
 
--- of the selected category, and preferred where a candidate has a preferred type of it; without a category nothing will do
-abbrev pub demand_for : Option ℕ → List InSlot → Demand
-demand_for None slots = Nothing
-demand_for (Some category) slots = Slot category (list_any (is_wanted (PreferredOf category)) slots)
+-- "discard candidates that do not accept the selected type category; furthermore, if any candidate accepts a preferred type in that category, discard candidates that accept non-preferred types"
+abbrev pub takes_category : List InSlot → ℕ → InSlot → Bool
+takes_category slots category slot = is_of category slot && (slot.preferred || not (list_any (λ other. other.preferred && is_of category other) slots))
 
--- what is demanded at a position; a known one demands nothing of a candidate
-abbrev pub demand_at : InSlot → List InSlot → Demand
-demand_at input slots = cond (is_known input) Anything (demand_for (selected slots) slots)
+-- where no category is selected the choice can't be deduced, and nothing is taken
+abbrev pub is_taken : List InSlot → InSlot → Bool
+is_taken slots slot = option_map_or (λ category. takes_category slots category slot) (selected slots) false
 
--- the demands from a position on, over the candidates as they stand
-abbrev pub demands_from : List (List InSlot) → List ℕ → ℕ → List InSlot → List Demand
-demands_from cands places position [] = []
-demands_from cands places position (input ∷ inputs) = demand_at input (column cands position places) ∷ demands_from cands places (position + 1) inputs
+-- the candidate takes what is selected at every unknown position
+abbrev pub survives : {A : Type 0} → (A → List InSlot) → List InSlot → List A → A → Bool
+survives declared inputs candidates candidate =
+    list_all (λ pair. is_known pair.0.1 || is_taken (column declared pair.0.0 candidates) pair.1) (zip (enumerate_from 0 inputs) (declared candidate))
 
-abbrev pub meets : Demand → InSlot → Bool
-meets Anything slot = true
-meets (Slot category preferred) slot = (slot.category == category) && (slot.preferred || not preferred)
-meets Nothing slot = false
+abbrev pub or_all : {A : Type 0} → List A → List A → List A
+or_all [] candidates = candidates
+or_all (first ∷ others) candidates = first ∷ others
 
--- whether the slots meet the demand at every position
-abbrev pub meets_all : List Demand → List InSlot → Bool
-meets_all demands slots = list_all (λ pair. meets pair.0 pair.1) (zip demands slots)
-
-abbrev pub passing : List (List InSlot) → List Demand → List ℕ → List ℕ
-passing cands demands places = filter (λ place. meets_all demands (slots_at cands place)) places
-
-abbrev pub is_filled : List ℕ → Bool
-is_filled [] = false
-is_filled (place ∷ places) = true
-
--- 3.e: those that meet the demand at every position; all where none does
-abbrev pub of_category : List (List InSlot) → List InSlot → List ℕ → List ℕ
-of_category cands inputs places =
-    let those = passing cands (demands_from cands places 0 inputs) places in
-    cond (is_filled those) those places
+-- 3.e: those that survive; "keep all candidates if none survive these tests"
+abbrev pub of_category : {A : Type 0} → (A → List InSlot) → List InSlot → List A → List A
+of_category declared inputs candidates = or_all (filter (survives declared inputs candidates) candidates) candidates

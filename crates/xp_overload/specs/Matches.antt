@@ -1,7 +1,6 @@
--- The candidates with the most matches (manual 10.2 step 3.c and 3.d, 10.3 step 4.c and 4.d).
+-- The candidates with the most matches (manual 10.2 step 3.c and 3.d, 10.3 step 4.c and 4.d). A step goes from a list of candidates to those of them that it keeps; `declared` gives what a candidate declares for each input.
 use Rattle.std.specs.Prelude.{ℕ, List, [], ◌∷◌, Bool, ◌==◌, ◌&&◌, not, max, filter, count_by}
 use Rattle.std.specs.List.{zip}
-use Rattle.xp_overload.specs.Places.{slots_at}
 use Rattle.xp_overload.specs.declared.slots.InSlot.{InSlot}
 use Rattle.xp_overload.specs.declared.matches.Match.{Match}
 use Rattle.xp_overload.specs.declared.matches.Match.TheVariants.{Exact, Preferred}
@@ -20,22 +19,18 @@ is_match Preferred input slot = is_known input && not (slot.ty.0 == input.ty.0) 
 abbrev pub matches : Match → List InSlot → List InSlot → ℕ
 matches kind inputs slots = count_by (λ pair. is_match kind pair.0 pair.1) (zip inputs slots)
 
--- the matches of the candidate at a place
-abbrev pub matches_at : Match → List (List InSlot) → List InSlot → ℕ → ℕ
-matches_at kind cands inputs place = matches kind inputs (slots_at cands place)
-
-abbrev pub greatest : (ℕ → ℕ) → List ℕ → ℕ
+abbrev pub greatest : {A : Type 0} → (A → ℕ) → List A → ℕ
 greatest count [] = 0
-greatest count (place ∷ places) = max (count place) (greatest count places)
+greatest count (candidate ∷ candidates) = max (count candidate) (greatest count candidates)
 
 -- those with the greatest count; they are all where it is 0
-abbrev pub with_most : (ℕ → ℕ) → List ℕ → List ℕ
-with_most count places = filter (λ place. count place == greatest count places) places
+abbrev pub with_most : {A : Type 0} → (A → ℕ) → List A → List A
+with_most count candidates = filter (λ candidate. count candidate == greatest count candidates) candidates
 
--- 3.c: those with the most exact matches
-abbrev pub most_exact : List (List InSlot) → List InSlot → List ℕ → List ℕ
-most_exact cands inputs places = with_most (matches_at Exact cands inputs) places
+-- 3.c: "keep those with the most exact matches on input types; keep all candidates if none have exact matches"
+abbrev pub most_exact : {A : Type 0} → (A → List InSlot) → List InSlot → List A → List A
+most_exact declared inputs candidates = with_most (λ candidate. matches Exact inputs (declared candidate)) candidates
 
--- 3.d: those that take preferred types of the input's category at the most positions
-abbrev pub most_preferred : List (List InSlot) → List InSlot → List ℕ → List ℕ
-most_preferred cands inputs places = with_most (matches_at Preferred cands inputs) places
+-- 3.d: "keep those that accept preferred types (of the input data type's type category) at the most positions where type conversion will be required; keep all candidates if none accept preferred types"
+abbrev pub most_preferred : {A : Type 0} → (A → List InSlot) → List InSlot → List A → List A
+most_preferred declared inputs candidates = with_most (λ candidate. matches Preferred inputs (declared candidate)) candidates

@@ -1,6 +1,6 @@
 //! The steps in their order (manual 10.2 step 3.c to 3.f, 10.3 step 4.c to 4.f).
 ghost use Rattle.std.specs.Prelude.{◌≡◌, ◌≤◌, length};
-ghost use Rattle.xp_overload.specs.Places.{HaveSlots, kept};
+ghost use Rattle.xp_overload.specs.Places.{HaveSlots, is_marked, kept, slots_at};
 ghost use Rattle.xp_overload.specs.Choosing.{choice_of, left};
 
 use crate::categories::keep_of_category;
@@ -41,22 +41,22 @@ fn only_one(keep: &[bool]) -> Choice
 /// inputs as having the type of the known ones; it marks none where the known ones have several
 /// types, or all inputs are known, or none is.
 pub fn choose(
-    cands: &[CandSlots],
+    candidates: &[CandSlots],
     inputs: &[InSlot],
     as_known: &[bool],
     keep: &mut [bool],
 ) -> Choice
     requires several { 2 ≤ length (kept keep.old) }
-    requires masks { length cands.now ≡ length keep.old }
+    requires masks { length candidates.now ≡ length keep.old }
     requires as_known { length as_known.now ≡ length keep.old }
-    requires slots { HaveSlots cands.now (length inputs.now) }
+    requires slots { HaveSlots candidates.now (length inputs.now) }
     requires room { length inputs.now ≤ 100 }
-    ensures left { kept keep.new ≡ left cands.now inputs.now as_known.now (kept keep.old) }
-    ensures choice { result ≡ choice_of (left cands.now inputs.now as_known.now (kept keep.old)) }
+    ensures left { kept keep.new ≡ left (slots_at candidates.now) (is_marked as_known.now) inputs.now (kept keep.old) }
+    ensures choice { result ≡ choice_of (left (slots_at candidates.now) (is_marked as_known.now) inputs.now (kept keep.old)) }
 {
-    keep_most(Match::Exact, cands, inputs, keep);
-    keep_most(Match::Preferred, cands, inputs, keep);
-    keep_of_category(cands, inputs, keep);
+    keep_most(Match::Exact, candidates, inputs, keep);
+    keep_most(Match::Preferred, candidates, inputs, keep);
+    keep_of_category(candidates, inputs, keep);
     keep_as_known(as_known, keep);
     only_one(keep)
 }

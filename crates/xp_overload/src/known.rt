@@ -1,13 +1,13 @@
 //! The candidate that accepts the unknown inputs as having the type of the known ones (manual
 //! 10.2 step 3.f).
-ghost use Rattle.std.specs.Prelude.{◌≡◌, length};
-ghost use Rattle.xp_overload.specs.Places.{kept};
-ghost use Rattle.xp_overload.specs.Choosing.{as_known_type, marked};
+ghost use Rattle.std.specs.Prelude.{◌≡◌, filter, length};
+ghost use Rattle.xp_overload.specs.Places.{is_marked, kept};
+ghost use Rattle.xp_overload.specs.Choosing.{as_known_type};
 
 /// How many of those that are left the mask marks.
 fn count_marked(marks: &[bool], keep: &[bool]) -> usize
     requires { length marks.now ≡ length keep.now }
-    ensures { result ≡ length (marked marks.now (kept keep.now)) }
+    ensures { result ≡ length (filter (is_marked marks.now) (kept keep.now)) }
 {
     let mut count = 0;
     for place in 0..keep.len() {
@@ -21,7 +21,7 @@ fn count_marked(marks: &[bool], keep: &[bool]) -> usize
 /// Leaves those that the mask marks.
 fn keep_marked(marks: &[bool], keep: &mut [bool])
     requires { length marks.now ≡ length keep.old }
-    ensures { kept keep.new ≡ marked marks.now (kept keep.old) }
+    ensures { kept keep.new ≡ filter (is_marked marks.now) (kept keep.old) }
 {
     for place in 0..keep.len() {
         if keep[place] {
@@ -33,7 +33,7 @@ fn keep_marked(marks: &[bool], keep: &mut [bool])
 /// Leaves the one that accepts the inputs as having one type, or all where it isn't one.
 pub fn keep_as_known(as_known: &[bool], keep: &mut [bool])
     requires { length as_known.now ≡ length keep.old }
-    ensures { kept keep.new ≡ as_known_type as_known.now (kept keep.old) }
+    ensures { kept keep.new ≡ as_known_type (is_marked as_known.now) (kept keep.old) }
 {
     if count_marked(as_known, keep) == 1 {
         keep_marked(as_known, keep);

@@ -1,7 +1,7 @@
 //! The candidates with the most matches at known positions (manual 10.2 step 3.c and 3.d).
 ghost use Rattle.std.specs.Prelude.{◌≡◌, length};
-ghost use Rattle.xp_overload.specs.Places.{kept};
-ghost use Rattle.xp_overload.specs.Matches.{greatest, is_match, matches, matches_at, with_most};
+ghost use Rattle.xp_overload.specs.Places.{kept, slots_at};
+ghost use Rattle.xp_overload.specs.Matches.{greatest, is_match, matches, with_most};
 
 use crate::slots::UNKNOWN_CATEGORY;
 use crate::{CandSlots, InSlot};
@@ -44,28 +44,28 @@ fn matches(kind: Match, inputs: &[InSlot], slots: &[InSlot]) -> usize
 }
 
 /// The most matches that a candidate of those left has.
-fn greatest(kind: Match, cands: &[CandSlots], inputs: &[InSlot], keep: &[bool]) -> usize
-    requires { length cands.now ≡ length keep.now }
-    ensures { result ≡ greatest (matches_at kind cands.now inputs.now) (kept keep.now) }
+fn greatest(kind: Match, candidates: &[CandSlots], inputs: &[InSlot], keep: &[bool]) -> usize
+    requires { length candidates.now ≡ length keep.now }
+    ensures { result ≡ greatest (λ place. matches kind inputs.now (slots_at candidates.now place)) (kept keep.now) }
 {
     let mut most = 0;
     for place in 0..keep.len() {
         if keep[place] {
-            most = most.max(matches(kind, inputs, cands[place].as_slice()));
+            most = most.max(matches(kind, inputs, candidates[place].as_slice()));
         }
     }
     most
 }
 
 /// Leaves the candidates that have the most matches.
-pub fn keep_most(kind: Match, cands: &[CandSlots], inputs: &[InSlot], keep: &mut [bool])
-    requires { length cands.now ≡ length keep.old }
-    ensures { kept keep.new ≡ with_most (matches_at kind cands.now inputs.now) (kept keep.old) }
+pub fn keep_most(kind: Match, candidates: &[CandSlots], inputs: &[InSlot], keep: &mut [bool])
+    requires { length candidates.now ≡ length keep.old }
+    ensures { kept keep.new ≡ with_most (λ place. matches kind inputs.now (slots_at candidates.now place)) (kept keep.old) }
 {
-    let most = greatest(kind, cands, inputs, keep);
+    let most = greatest(kind, candidates, inputs, keep);
     for place in 0..keep.len() {
         if keep[place] {
-            keep[place] = matches(kind, inputs, cands[place].as_slice()) == most;
+            keep[place] = matches(kind, inputs, candidates[place].as_slice()) == most;
         }
     }
 }

@@ -7,7 +7,7 @@ ghost use Rattle.xp_poly.specs.Acceptance.{accepts, accepts_first, accepts_plain
 
 use crate::members::{KnownInput, NOTHING, counts_as, given, is_of_range, range_given};
 use crate::roles::{Family, Form, Role, declared_role, has_nonarray, uses};
-use crate::room::put;
+use crate::room::{ROOM, put};
 use xp_base::TypeNo;
 use xp_catalog::Catalog;
 use xp_types::{CommonType, UNKNOWN, array_of, base, common, converts, is_array};
@@ -50,29 +50,28 @@ pub fn element_type(c: &Catalog, inputs: &[KnownInput]) -> Option<TypeNo>
     }
 }
 
-fn fits_element(c: &Catalog, t: TypeNo, range: Option<TypeNo>, given: KnownInput) -> bool
+fn fits_element(c: &Catalog, ty: TypeNo, range: Option<TypeNo>, given: KnownInput) -> bool
     requires { IsType c.now given.input }
-    ensures { result ≡ fits_element c.now t range given }
+    ensures { result ≡ fits_element c.now ty range given }
 {
     let counts = match counts_as(c, given) {
-        Some(counts) => t.0 == counts.0,
+        Some(counts) => ty.0 == counts.0,
         None => false,
     };
     let array = matches!(given.form, Form::NonArray) && is_array(c, base(c, given.input));
     counts && !array && is_of_range(c, range, given)
 }
 
-fn fit_element(c: &Catalog, inputs: &[KnownInput], t: Option<TypeNo>) -> bool
+fn fit_element(c: &Catalog, inputs: &[KnownInput], ty: Option<TypeNo>) -> bool
     requires { AreKnownTypes c.now inputs.now }
-    ensures { result ≡ fit_element c.now inputs.now t }
+    ensures { result ≡ fit_element c.now inputs.now ty }
 {
-    let t = match t {
-        Some(t) => t,
-        None => return false,
+    let Some(ty) = ty else {
+        return false;
     };
     let range = range_given(c, inputs);
     for given in inputs {
-        if !fits_element(c, t, range, *given) {
+        if !fits_element(c, ty, range, *given) {
             return false;
         }
     }
@@ -111,60 +110,60 @@ pub fn compatible_type(c: &Catalog, inputs: &[KnownInput]) -> Option<TypeNo>
     ensures within { IfSome result (IsType c.now) }
 {
     let text = c.type_named("text")?;
-    let mut room = [UNKNOWN; 100];
+    let mut room = [UNKNOWN; ROOM];
     let count = counted(c, inputs, &mut room);
     if count == 0 {
         return Some(text);
     }
     match common(c, &room[..count]) {
-        CommonType::One(t) => Some(t),
+        CommonType::One(ty) => Some(ty),
         _ => None,
     }
 }
 
 /// The array type over the type, and `unknown` where there is none.
-pub fn array_type(c: &Catalog, t: TypeNo) -> TypeNo
-    requires { IsType c.now t }
-    ensures value { result ≡ array_type c.now t }
+pub fn array_type(c: &Catalog, ty: TypeNo) -> TypeNo
+    requires { IsType c.now ty }
+    ensures value { result ≡ array_type c.now ty }
     ensures within { IsType c.now result }
 {
-    match array_of(c, t) {
+    match array_of(c, ty) {
         Some(array) => array,
         None => UNKNOWN,
     }
 }
 
-fn reaches(c: &Catalog, t: TypeNo, given: KnownInput, counts: Option<TypeNo>) -> bool
-    requires t { IsType c.now t }
+fn reaches(c: &Catalog, ty: TypeNo, given: KnownInput, counts: Option<TypeNo>) -> bool
+    requires ty { IsType c.now ty }
     requires input { IsType c.now given.input }
-    ensures { result ≡ reaches c.now t given.input counts given.form }
+    ensures { result ≡ reaches c.now ty given.input counts given.form }
 {
     match given.form {
-        Form::Element | Form::NonArray => converts(c, given.input, t),
-        Form::Array => counts.is_some() && converts(c, given.input, array_type(c, t)),
+        Form::Element | Form::NonArray => converts(c, given.input, ty),
+        Form::Array => counts.is_some() && converts(c, given.input, array_type(c, ty)),
         Form::Range => match counts {
-            Some(counts) => t.0 == counts.0,
+            Some(counts) => ty.0 == counts.0,
             None => false,
         },
     }
 }
 
-fn fits_compatible(c: &Catalog, t: TypeNo, range: Option<TypeNo>, given: KnownInput) -> bool
-    requires t { IsType c.now t }
+fn fits_compatible(c: &Catalog, ty: TypeNo, range: Option<TypeNo>, given: KnownInput) -> bool
+    requires ty { IsType c.now ty }
     requires input { IsType c.now given.input }
-    ensures { result ≡ fits_compatible c.now t range given }
+    ensures { result ≡ fits_compatible c.now ty range given }
 {
-    reaches(c, t, given, counts_as(c, given)) && is_of_range(c, range, given)
+    reaches(c, ty, given, counts_as(c, given)) && is_of_range(c, range, given)
 }
 
-fn all_compatible(c: &Catalog, t: TypeNo, inputs: &[KnownInput]) -> bool
-    requires t { IsType c.now t }
+fn all_compatible(c: &Catalog, ty: TypeNo, inputs: &[KnownInput]) -> bool
+    requires ty { IsType c.now ty }
     requires inputs { AreKnownTypes c.now inputs.now }
-    ensures { result ≡ list_all (fits_compatible c.now t (range_given c.now inputs.now)) inputs.now }
+    ensures { result ≡ list_all (fits_compatible c.now ty (range_given c.now inputs.now)) inputs.now }
 {
     let range = range_given(c, inputs);
     for given in inputs {
-        if !fits_compatible(c, t, range, *given) {
+        if !fits_compatible(c, ty, range, *given) {
             return false;
         }
     }
@@ -175,17 +174,18 @@ fn fit_compatible(
     c: &Catalog,
     declared: &[TypeNo],
     inputs: &[KnownInput],
-    t: Option<TypeNo>,
+    ty: Option<TypeNo>,
 ) -> bool
     requires declared { AreTypes c.now declared.now }
     requires inputs { AreKnownTypes c.now inputs.now }
-    requires t { IfSome t (IsType c.now) }
-    ensures { result ≡ fit_compatible c.now declared.now inputs.now t }
+    requires ty { IfSome ty (IsType c.now) }
+    ensures { result ≡ fit_compatible c.now declared.now inputs.now ty }
 {
-    match t {
-        Some(t) => {
+    match ty {
+        Some(ty) => {
             inputs.is_empty()
-                || (!(has_nonarray(c, declared) && is_array(c, t)) && all_compatible(c, t, inputs))
+                || (!(has_nonarray(c, declared) && is_array(c, ty))
+                    && all_compatible(c, ty, inputs))
         }
         None => false,
     }
@@ -210,9 +210,9 @@ pub fn accepts(c: &Catalog, declared: &[TypeNo], inputs: &[TypeNo]) -> bool
     requires inputs { AreTypes c.now inputs.now }
     ensures { result ≡ accepts c.now declared.now inputs.now }
 {
-    let mut first = [NOTHING; 100];
+    let mut first = [NOTHING; ROOM];
     let first_count = given(c, Family::First, declared, inputs, &mut first);
-    let mut second = [NOTHING; 100];
+    let mut second = [NOTHING; ROOM];
     let second_count = given(c, Family::Second, declared, inputs, &mut second);
     all_plain(c, declared, inputs)
         && accepts_first(c, &first[..first_count])

@@ -1,7 +1,6 @@
 //! The types that stand for declared types in a call (manual 38.2.5).
-ghost use Rattle.std.specs.Prelude.{◌≡◌, ◌<◌, ◌≤◌, IfSome, codes, cond, false, find, length, map, true, unwrap_or, zip};
+ghost use Rattle.std.specs.Prelude.{◌≡◌, ◌<◌, ◌≤◌, IfSome, cond, find, length, map, true, unwrap_or, zip};
 ghost use Rattle.std.specs.Option.{option_map_or};
-ghost use Rattle.xp_catalog.specs.Rules.{is_called};
 ghost use Rattle.xp_types.specs.Common.{text};
 ghost use Rattle.xp_types.specs.Readers.{is_same, unknown};
 ghost use Rattle.xp_types.specs.Within.{AreTypes, IsType};
@@ -14,6 +13,7 @@ ghost use Rattle.xp_poly.specs.declared.roles.Family.TheVariants.{First, Second}
 use crate::acceptance::{array_type, compatible_type, element_type};
 use crate::members::{KnownInput, NOTHING, given, range_given};
 use crate::roles::{Family, Form, Role, declared_role, uses};
+use crate::room::ROOM;
 use xp_base::{RowNo, TypeNo};
 use xp_catalog::Catalog;
 use xp_types::{UNKNOWN, is_known};
@@ -41,11 +41,11 @@ pub struct Bonds {
     pub second: Bond,
 }
 
-fn known_or_unknown(t: Option<TypeNo>) -> TypeNo
-    ensures { result ≡ unwrap_or t unknown }
+fn known_or_unknown(ty: Option<TypeNo>) -> TypeNo
+    ensures { result ≡ unwrap_or ty unknown }
 {
-    match t {
-        Some(t) => t,
+    match ty {
+        Some(ty) => ty,
         None => UNKNOWN,
     }
 }
@@ -76,14 +76,14 @@ fn second_bond(c: &Catalog, inputs: &[KnownInput]) -> Bond
 }
 
 /// The range type of the first range record over the type, and `unknown` where there is none.
-fn range_over(c: &Catalog, t: TypeNo) -> TypeNo
-    requires { IsType c.now t }
-    ensures value { result ≡ range_over c.now t }
+fn range_over(c: &Catalog, ty: TypeNo) -> TypeNo
+    requires { IsType c.now ty }
+    ensures value { result ≡ range_over c.now ty }
     ensures within { IsType c.now result }
 {
     for row in 0..c.counts().ranges {
         let range = c.range_row(RowNo(row));
-        if range.subtype.0 == t.0 {
+        if range.subtype.0 == ty.0 {
             return range.ty;
         }
     }
@@ -183,20 +183,19 @@ pub fn bind(
     requires declared { AreTypes c.now declared.now }
     requires declared_result { IsType c.now declared_result }
     requires inputs { AreTypes c.now inputs.now }
-    requires one_type { is_called c.now declared_result (codes "any") ≡ false }
     requires accepted { accepts c.now declared.now inputs.now ≡ true }
     ensures binding { result ≡ bound c.now declared.now declared_result inputs.now }
     ensures out { out.new ≡ cond (is_indeterminate c.now declared.now inputs.now) out.old (concrete_types c.now (zip declared.now inputs.now)) }
     ensures within { IfConcrete result (IsType c.now) }
-    ensures out_within { IfConcrete result (λ t. AreTypes c.now out.new) }
+    ensures out_within { IfConcrete result (λ ty. AreTypes c.now out.new) }
 {
-    let mut first = [NOTHING; 100];
+    let mut first = [NOTHING; ROOM];
     let first_count = given(c, Family::First, declared, inputs, &mut first);
     let first = &first[..first_count];
     if is_indeterminate(c, declared, first) {
         return Binding::Indeterminate;
     }
-    let mut second = [NOTHING; 100];
+    let mut second = [NOTHING; ROOM];
     let second_count = given(c, Family::Second, declared, inputs, &mut second);
     let both = Bonds {
         first: first_bond(c, first),

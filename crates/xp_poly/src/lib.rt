@@ -1,5 +1,6 @@
 //! Polymorphic types: whether declared types accept inputs, and what they stand for in a call
-//! (manual 38.2.5).
+//! (manual 38.2.5). It stands on paths and common types. It never chooses among candidates, and
+//! never asks for memory.
 #![tactic(auto)]
 
 mod acceptance;

@@ -70,15 +70,15 @@ pub fn given(
     count
 }
 
-fn counts_by(c: &Catalog, form: Form, t: TypeNo) -> Option<TypeNo>
-    requires { IsType c.now t }
-    ensures value { result ≡ counts_by c.now form t }
+fn counts_by(c: &Catalog, form: Form, ty: TypeNo) -> Option<TypeNo>
+    requires { IsType c.now ty }
+    ensures value { result ≡ counts_by c.now form ty }
     ensures within { IfSome result (IsType c.now) }
 {
     match form {
-        Form::Element | Form::NonArray => Some(t),
-        Form::Array => element(c, t),
-        Form::Range => subtype(c, t),
+        Form::Element | Form::NonArray => Some(ty),
+        Form::Array => element(c, ty),
+        Form::Range => subtype(c, ty),
     }
 }
 

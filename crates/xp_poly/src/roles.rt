@@ -2,11 +2,12 @@
 ghost use Rattle.std.specs.Prelude.{◌≡◌, ◌<◌, length};
 ghost use Rattle.std.specs.List.{list_any};
 ghost use Rattle.xp_types.specs.Within.{AreTypes, IsType};
-ghost use Rattle.xp_poly.specs.Roles.{first_role, is_family, is_of, role, role_of, second_role};
+ghost use Rattle.xp_poly.specs.Roles.{is_family, is_of, role, role_of};
 ghost use Rattle.xp_poly.specs.Acceptance.{has_nonarray, is_nonarray, uses};
 
 use xp_base::TypeNo;
-use xp_catalog::Catalog;
+use xp_catalog::{Catalog, PseudoType};
+use xp_types::pseudo_type;
 
 /// The two families of polymorphic types.
 #[derive(Clone, Copy, Debug, PartialEq, Eq)]
@@ -81,45 +82,19 @@ fn member(family: Family, form: Form) -> Role
     Role::Member { family, form }
 }
 
-fn first_role(name: &str) -> Role
-    ensures { result ≡ first_role name.now }
+fn role_of(of: PseudoType) -> Role
+    ensures { result ≡ role_of of }
 {
-    if name == "anyelement" {
-        member(Family::First, Form::Element)
-    } else if name == "anynonarray" {
-        member(Family::First, Form::NonArray)
-    } else if name == "anyarray" {
-        member(Family::First, Form::Array)
-    } else if name == "anyrange" {
-        member(Family::First, Form::Range)
-    } else {
-        Role::Plain
-    }
-}
-
-fn second_role(name: &str) -> Role
-    ensures { result ≡ second_role name.now }
-{
-    if name == "anycompatible" {
-        member(Family::Second, Form::Element)
-    } else if name == "anycompatiblenonarray" {
-        member(Family::Second, Form::NonArray)
-    } else if name == "anycompatiblearray" {
-        member(Family::Second, Form::Array)
-    } else if name == "anycompatiblerange" {
-        member(Family::Second, Form::Range)
-    } else {
-        first_role(name)
-    }
-}
-
-fn role_of(name: &str) -> Role
-    ensures { result ≡ role_of name.now }
-{
-    if name == "any" {
-        Role::Any
-    } else {
-        second_role(name)
+    match of {
+        PseudoType::Any => Role::Any,
+        PseudoType::AnyElement => member(Family::First, Form::Element),
+        PseudoType::AnyNonArray => member(Family::First, Form::NonArray),
+        PseudoType::AnyArray => member(Family::First, Form::Array),
+        PseudoType::AnyRange => member(Family::First, Form::Range),
+        PseudoType::AnyCompatible => member(Family::Second, Form::Element),
+        PseudoType::AnyCompatibleNonArray => member(Family::Second, Form::NonArray),
+        PseudoType::AnyCompatibleArray => member(Family::Second, Form::Array),
+        PseudoType::AnyCompatibleRange => member(Family::Second, Form::Range),
     }
 }
 
@@ -128,7 +103,10 @@ pub fn declared_role(c: &Catalog, declared: TypeNo) -> Role
     requires { IsType c.now declared }
     ensures { result ≡ role c.now declared }
 {
-    role_of(c.type_row(declared).name.as_str())
+    match pseudo_type(c, declared) {
+        Some(of) => role_of(of),
+        None => Role::Plain,
+    }
 }
 
 /// Whether some declared type is of the family.
@@ -136,8 +114,8 @@ pub fn uses(c: &Catalog, family: Family, declared: &[TypeNo]) -> bool
     requires { AreTypes c.now declared.now }
     ensures { result ≡ uses c.now family declared.now }
 {
-    for t in declared {
-        if declared_role(c, *t).is_of(family) {
+    for ty in declared {
+        if declared_role(c, *ty).is_of(family) {
             return true;
         }
     }
@@ -149,8 +127,8 @@ pub fn has_nonarray(c: &Catalog, declared: &[TypeNo]) -> bool
     requires { AreTypes c.now declared.now }
     ensures { result ≡ has_nonarray c.now declared.now }
 {
-    for t in declared {
-        if declared_role(c, *t).is_nonarray() {
+    for ty in declared {
+        if declared_role(c, *ty).is_nonarray() {
             return true;
         }
     }

@@ -1,21 +1,22 @@
 -- That every input has a path to the common type.
-use Rattle.std.proofs.Common.{◌≡◌, ℕ, ◌<◌, List, Bool, true, false, All, length, get_or, refl, ap, arith, None, position}
+use Rattle.std.proofs.Common.{◌≡◌, ℕ, ◌<◌, List, Bool, true, false, All, length, get_or, refl, ap, arith, Option, None, position}
 use Rattle.std.proofs.lemmas.List.Sums.{fails_before_first}
 use Rattle.std.proofs.lemmas.Option.{get_or_from_slice_get, slice_get-get_or}
 use Rattle.xp_base.specs.declared.numbers.TypeNo.{TypeNo}
 use Rattle.xp_catalog.specs.Contents.{Contents}
 use Rattle.xp_types.specs.Readers.{is_known, is_same}
 use Rattle.xp_types.specs.Paths.{converts, first_rule, is_path}
+use Rattle.xp_types.specs.declared.paths.PathKind.{PathKind}
 use Rattle.xp_types.specs.declared.paths.PathKind.TheVariants.{Literal, Same}
 use Rattle.xp_catalog.specs.declared.rows.Context.{Context}
 use Rattle.xp_catalog.specs.declared.rows.Context.TheVariants as context
 use Rattle.xp_types.proofs.Places.{place_missing}
 
-pub literal_first : (c : Contents) (wanted : Context) (s t : TypeNo) (by_elements : Bool) → is_known s ≡ false → first_rule c wanted s t by_elements ≡ Literal
-literal_first c wanted s t by_elements is = rw is refl
+pub literal_first : (c : Contents) (wanted : Context) (s t : TypeNo) (elements : Option PathKind) → is_known s ≡ false → first_rule c wanted s t elements ≡ Literal
+literal_first c wanted s t elements is = rw is refl
 
-pub same_second : (c : Contents) (wanted : Context) (s t : TypeNo) (by_elements : Bool) → is_known s ≡ true → is_same s t ≡ true → first_rule c wanted s t by_elements ≡ Same
-same_second c wanted s t by_elements known same = rw (known, same) refl
+pub same_second : (c : Contents) (wanted : Context) (s t : TypeNo) (elements : Option PathKind) → is_known s ≡ true → is_same s t ≡ true → first_rule c wanted s t elements ≡ Same
+same_second c wanted s t elements known same = rw (known, same) refl
 
 unknown_converts : (c : Contents) (s t : TypeNo) → is_known s ≡ false → converts c s t ≡ true
 unknown_converts c s t is = ap is_path (literal_first c context.Implicit s t _ is)

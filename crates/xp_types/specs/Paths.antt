@@ -1,6 +1,6 @@
 -- The path from one type to another in a context (manual 10.1, 10.4, 8.15, 8.18; CREATE CAST, CREATE DOMAIN; the order of the rules is this project's own).
-use Rattle.std.specs.Prelude.{Bool, true, false, ◌==◌, ◌&&◌, not, cond, Option, Some, option_map, slice_get, unwrap_or}
-use Rattle.std.specs.Option.{option_map_or}
+use Rattle.std.specs.Prelude.{Bool, true, false, ◌==◌, ◌&&◌, not, cond, Option, Some, None, option_map, slice_get, unwrap_or}
+use Rattle.std.specs.Option.{option_map_or, option_or}
 use Rattle.xp_base.specs.declared.numbers.TypeNo.{TypeNo}
 use Rattle.xp_base.specs.declared.numbers.RowNo.{RowNo}
 use Rattle.xp_catalog.specs.declared.rows.Context.{Context}
@@ -35,38 +35,37 @@ is_string c type = category c type == 83
 abbrev pub is_domain : Contents → TypeNo → Bool
 is_domain c type = is_domain_kind (kind_of c type)
 
--- what applies where the two types don't count as one and no cast stands for them: element by element, then through text
-abbrev pub without_cast : Contents → Context → TypeNo → TypeNo → Bool → PathKind
-without_cast c wanted from to by_elements =
-    cond by_elements Elements (
+-- to a string by output text, in assignment and explicit context; from a string by input text, in explicit context
+abbrev pub through_text : Contents → Context → TypeNo → TypeNo → PathKind
+through_text c wanted from to =
     cond (is_string c to && serves context.Assignment wanted) ByOutput (
-    cond (is_string c from && serves context.Explicit wanted) ByInput NoPath))
+    cond (is_string c from && serves context.Explicit wanted) ByInput NoPath)
 
--- the path of two types that aren't unknown and count as these
-abbrev pub path_of_bases : Contents → Context → TypeNo → TypeNo → Bool → PathKind
-path_of_bases c wanted from to by_elements = unwrap_or (by_cast c wanted from to) (without_cast c wanted from to by_elements)
+-- the path of two types that aren't unknown and count as these: by a cast, by elements, through text; the first that decides
+abbrev pub path_of_bases : Contents → Context → TypeNo → TypeNo → Option PathKind → PathKind
+path_of_bases c wanted from to elements = unwrap_or (option_or (by_cast c wanted from to) elements) (through_text c wanted from to)
 
--- the rules in their order, where it is known whether the path may go by elements
-abbrev pub first_rule : Contents → Context → TypeNo → TypeNo → Bool → PathKind
-first_rule c wanted s t by_elements =
+-- the rules in their order, where it is known what the elements decide
+abbrev pub first_rule : Contents → Context → TypeNo → TypeNo → Option PathKind → PathKind
+first_rule c wanted s t elements =
     cond (is_known s) (
     cond (is_same s t) Same (
     cond (is_same (base c s) (base c t)) Relabel
-    (path_of_bases c wanted (base c s) (base c t) by_elements)))
+    (path_of_bases c wanted (base c s) (base c t) elements)))
     Literal
 
 abbrev pub is_path : PathKind → Bool
 is_path NoPath = false
 is_path _ = true
 
--- elements have a path where neither is of a domain; they are no arrays themselves
-abbrev pub elements_convert : Contents → Context → Option TypeNo → Option TypeNo → Bool
-elements_convert c wanted (Some s) (Some t) = not (is_domain c s) && not (is_domain c t) && is_path (first_rule c wanted s t false)
-elements_convert c wanted _ _ = false
+-- between arrays whose elements are of no domain the elements decide: the path is theirs, one by one, or there is none; they are no arrays themselves
+abbrev pub by_elements : Contents → Context → Option TypeNo → Option TypeNo → Option PathKind
+by_elements c wanted (Some s) (Some t) = cond (not (is_domain c s) && not (is_domain c t)) (Some (cond (is_path (first_rule c wanted s t None)) Elements NoPath)) None
+by_elements c wanted _ _ = None
 
 -- the first rule that applies
 abbrev pub path : Contents → TypeNo → TypeNo → Context → PathKind
-path c s t wanted = first_rule c wanted s t (elements_convert c wanted (element c (base c s)) (element c (base c t)))
+path c s t wanted = first_rule c wanted s t (by_elements c wanted (element c (base c s)) (element c (base c t)))
 
 -- there is an implicit path
 abbrev pub converts : Contents → TypeNo → TypeNo → Bool

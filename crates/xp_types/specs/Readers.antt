@@ -1,8 +1,9 @@
--- What is read off a type: the type that it counts as, its category, its element, its array type, its subtype (manual 8.15, 8.17, 8.18, 10.1, 53.64).
+-- What is read off a type: the type that it counts as, its category, which pseudo-type it is, its element, its array type, its subtype (manual 8.15, 8.17, 8.18, 10.1, 53.64).
 use Rattle.std.specs.Prelude.{ℕ, Bool, true, false, ◌==◌, ◌&&◌, not, Option, Some, None, is_some, option_map, slice_get}
 use Rattle.std.specs.Option.{option_map_or}
 use Rattle.std.specs.List.{position}
 use Rattle.xp_base.specs.declared.numbers.TypeNo.{TypeNo}
+use Rattle.xp_catalog.specs.declared.rows.PseudoType.{PseudoType}
 use Rattle.xp_catalog.specs.declared.rows.TypeKind.{TypeKind}
 use Rattle.xp_catalog.specs.declared.rows.TypeKind.TheVariants as kind
 use Rattle.xp_catalog.specs.declared.rows.TypeRow.{TypeRow}
@@ -33,6 +34,14 @@ category c type = category_at c.types type
 
 abbrev pub preferred : Contents → TypeNo → Bool
 preferred c type = option_map_or (λ row. row.preferred) (slice_get c.types type.0) false
+
+abbrev pub pseudo_by : TypeKind → Option PseudoType
+pseudo_by (kind.Pseudo pseudo) = Some pseudo
+pseudo_by _ = None
+
+-- which pseudo-type it is, where it is one
+abbrev pub pseudo_type : Contents → TypeNo → Option PseudoType
+pseudo_type c type = pseudo_by (kind_of c type)
 
 abbrev pub element_by : TypeKind → Option TypeNo
 element_by (kind.Array element) = Some element

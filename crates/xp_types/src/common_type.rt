@@ -27,7 +27,7 @@ pub enum CommonType {
 fn are_same(first: TypeNo, others: &[TypeNo]) -> bool
     ensures { result ≡ list_all (is_same first) others.now }
 {
-    others.iter().all(|t| first.0 == t.0)
+    others.iter().all(|other| first.0 == other.0)
 }
 
 /// The type of all inputs, where they have one and it is known.
@@ -47,7 +47,7 @@ fn shared_type(inputs: &[TypeNo]) -> Option<TypeNo>
 fn first_known(inputs: &[TypeNo]) -> Option<usize>
     ensures { result ≡ position is_known inputs.now }
 {
-    inputs.iter().position(|t| is_known(*t))
+    inputs.iter().position(|input| is_known(*input))
 }
 
 /// The type `text`.
@@ -108,19 +108,19 @@ fn candidate_of(c: &Catalog, first: TypeNo, others: &[TypeNo]) -> TypeNo
 }
 
 /// The type, if each input can be converted to it.
-fn converted(c: &Catalog, inputs: &[TypeNo], t: TypeNo) -> CommonType
+fn converted(c: &Catalog, inputs: &[TypeNo], ty: TypeNo) -> CommonType
     requires inputs { AreTypes c.now inputs.now }
-    requires t { IsType c.now t }
-    ensures value { result ≡ converted c.now inputs.now t }
+    requires ty { IsType c.now ty }
+    ensures value { result ≡ converted c.now inputs.now ty }
     ensures within { IfOne result (IsType c.now) }
     ensures converts { IfOne result (λ t. All (λ s. converts c.now s t ≡ true) inputs.now) }
 {
     for (place, input) in inputs.iter().enumerate() {
-        if !converts(c, *input, t) {
+        if !converts(c, *input, ty) {
             return CommonType::NoPath { at: place };
         }
     }
-    CommonType::One(t)
+    CommonType::One(ty)
 }
 
 /// The steps behind the first.
@@ -155,7 +155,7 @@ pub fn common(c: &Catalog, inputs: &[TypeNo]) -> CommonType
     ensures converts { IfOne result (λ t. All (λ s. converts c.now s t ≡ true) inputs.now) }
 {
     match shared_type(inputs) {
-        Some(t) => CommonType::One(t),
+        Some(ty) => CommonType::One(ty),
         None => common_of(c, inputs),
     }
 }

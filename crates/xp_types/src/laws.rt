@@ -15,7 +15,8 @@ pub fn literal_and_same(c: &Catalog, s: TypeNo, t: TypeNo, context: Context)
     ensures same { is_known s ≡ true → path c.now s s context ≡ Same }
 {}
 
-/// One more cast changes no path but that of its own two types, and that of their arrays.
+/// One more cast changes no path but those from a type over its source to a type over its target,
+/// and those between arrays of such types. A type is over itself, and a domain over its base type.
 pub fn other_casts_change_nothing(
     c: &Catalog,
     cast: CastRow,
@@ -28,8 +29,8 @@ pub fn other_casts_change_nothing(
 {}
 
 /// The elements of arrays are no arrays themselves.
-pub fn elements_are_no_arrays(c: &Catalog, t: TypeNo)
-    ensures { IfSome (element c.now t) (λ type. element c.now type ≡ None) }
+pub fn elements_are_no_arrays(c: &Catalog, ty: TypeNo)
+    ensures { IfSome (element c.now ty) (λ type. element c.now type ≡ None) }
 {
     // no record gives an array over an array
     c.counts();

@@ -2,7 +2,7 @@
 ghost use Rattle.std.specs.Prelude.{◌≡◌, ◌<◌, IfSome, length, option_map};
 ghost use Rattle.xp_types.specs.Readers.{base, element, is_same};
 ghost use Rattle.xp_types.specs.Within.{HasCast};
-ghost use Rattle.xp_types.specs.Paths.{allowed_at, by_cast, converts, elements_convert, first_rule, is_path, is_string, path, path_of_bases, serves, without_cast};
+ghost use Rattle.xp_types.specs.Paths.{allowed_at, by_cast, by_elements, converts, first_rule, is_path, is_string, path, path_of_bases, serves, through_text};
 
 use crate::readers::{base, category, element, is_domain, is_known};
 use xp_base::{RowNo, TypeNo};
@@ -68,22 +68,14 @@ fn by_cast(c: &Catalog, wanted: Context, from: TypeNo, to: TypeNo) -> Option<Pat
     }
 }
 
-/// The path where no cast stands for the types: element by element, then through text.
-fn without_cast(
-    c: &Catalog,
-    wanted: Context,
-    from: TypeNo,
-    to: TypeNo,
-    by_elements: bool,
-) -> PathKind
+/// The path through the text that stands for a value.
+fn through_text(c: &Catalog, wanted: Context, from: TypeNo, to: TypeNo) -> PathKind
     requires from { from.0 < length c.now.types }
     requires to { to.0 < length c.now.types }
-    ensures value { result ≡ without_cast c.now wanted from to by_elements }
+    ensures value { result ≡ through_text c.now wanted from to }
     ensures within { HasCast c.now result }
 {
-    if by_elements {
-        PathKind::Elements
-    } else if is_string(c, to) && serves(Context::Assignment, wanted) {
+    if is_string(c, to) && serves(Context::Assignment, wanted) {
         PathKind::ByOutput
     } else if is_string(c, from) && serves(Context::Explicit, wanted) {
         PathKind::ByInput
@@ -97,24 +89,35 @@ fn path_of_bases(
     wanted: Context,
     from: TypeNo,
     to: TypeNo,
-    by_elements: bool,
+    elements: Option<PathKind>,
 ) -> PathKind
     requires from { from.0 < length c.now.types }
     requires to { to.0 < length c.now.types }
-    ensures value { result ≡ path_of_bases c.now wanted from to by_elements }
+    requires elements { IfSome elements (HasCast c.now) }
+    ensures value { result ≡ path_of_bases c.now wanted from to elements }
     ensures within { HasCast c.now result }
 {
-    match by_cast(c, wanted, from, to) {
+    if let Some(path) = by_cast(c, wanted, from, to) {
+        return path;
+    }
+    match elements {
         Some(path) => path,
-        None => without_cast(c, wanted, from, to, by_elements),
+        None => through_text(c, wanted, from, to),
     }
 }
 
-/// The first rule that applies, where it is known whether the path may go by elements.
-fn first_rule(c: &Catalog, wanted: Context, s: TypeNo, t: TypeNo, by_elements: bool) -> PathKind
+/// The first rule that applies, where it is known what the elements decide.
+fn first_rule(
+    c: &Catalog,
+    wanted: Context,
+    s: TypeNo,
+    t: TypeNo,
+    elements: Option<PathKind>,
+) -> PathKind
     requires s { s.0 < length c.now.types }
     requires t { t.0 < length c.now.types }
-    ensures value { result ≡ first_rule c.now wanted s t by_elements }
+    requires elements { IfSome elements (HasCast c.now) }
+    ensures value { result ≡ first_rule c.now wanted s t elements }
     ensures within { HasCast c.now result }
 {
     if !is_known(s) {
@@ -128,21 +131,30 @@ fn first_rule(c: &Catalog, wanted: Context, s: TypeNo, t: TypeNo, by_elements: b
     if from == to {
         PathKind::Relabel
     } else {
-        path_of_bases(c, wanted, from, to, by_elements)
+        path_of_bases(c, wanted, from, to, elements)
     }
 }
 
-/// Whether the elements of two arrays have a path.
-fn elements_convert(c: &Catalog, wanted: Context, from: Option<TypeNo>, to: Option<TypeNo>) -> bool
+/// What the elements of two arrays decide, where neither is of a domain.
+fn by_elements(
+    c: &Catalog,
+    wanted: Context,
+    from: Option<TypeNo>,
+    to: Option<TypeNo>,
+) -> Option<PathKind>
     requires from { IfSome from (λ type. type.0 < length c.now.types) }
     requires to { IfSome to (λ type. type.0 < length c.now.types) }
-    ensures { result ≡ elements_convert c.now wanted from to }
+    ensures value { result ≡ by_elements c.now wanted from to }
+    ensures within { IfSome result (HasCast c.now) }
 {
-    match (from, to) {
-        (Some(s), Some(t)) => {
-            !is_domain(c, s) && !is_domain(c, t) && first_rule(c, wanted, s, t, false).is_path()
-        }
-        _ => false,
+    let (s, t) = (from?, to?);
+    if is_domain(c, s) || is_domain(c, t) {
+        return None;
+    }
+    if first_rule(c, wanted, s, t, None).is_path() {
+        Some(PathKind::Elements)
+    } else {
+        Some(PathKind::NoPath)
     }
 }
 
@@ -155,8 +167,8 @@ pub fn path(c: &Catalog, s: TypeNo, t: TypeNo, context: Context) -> PathKind
 {
     let from = element(c, base(c, s));
     let to = element(c, base(c, t));
-    let by_elements = elements_convert(c, context, from, to);
-    first_rule(c, context, s, t, by_elements)
+    let elements = by_elements(c, context, from, to);
+    first_rule(c, context, s, t, elements)
 }
 
 /// Whether there is an implicit path.

@@ -4,5 +4,5 @@ use Rattle.xp_poly.specs.Acceptance.{accepts}
 use Rattle.xp_candidates.proofs.accepted.mark_accepting.Given as goal
 
 -- the marks so far
-abbrev pub invariant-loop-cand : goal.invariant-loop-cand
-invariant-loop-cand l = l.marks.items ≡ map (λ cand. accepts l.c cand.declared l.types) (take l.cand-index l.cands)
+abbrev pub invariant-loop-candidate : goal.invariant-loop-candidate
+invariant-loop-candidate l = l.marks.items ≡ map (λ candidate. accepts l.c candidate.declared l.types) (take l.candidate-index l.candidates)

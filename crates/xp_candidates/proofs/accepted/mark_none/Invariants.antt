@@ -3,5 +3,5 @@ use Rattle.std.specs.Prelude.{map}
 use Rattle.xp_candidates.proofs.accepted.mark_none.Given as goal
 
 -- the marks so far
-abbrev pub invariant-loop-cand : goal.invariant-loop-cand
-invariant-loop-cand l = l.marks.items ≡ map (λ cand. false) (take l._cand-index l.cands)
+abbrev pub invariant-loop-candidate : goal.invariant-loop-candidate
+invariant-loop-candidate l = l.marks.items ≡ map (λ candidate. false) (take l._candidate-index l.candidates)

@@ -4,5 +4,5 @@ use Rattle.xp_candidates.specs.Accepted.{takes}
 use Rattle.xp_candidates.proofs.accepted.mark_taking.Given as goal
 
 -- the marks so far
-abbrev pub invariant-loop-cand : goal.invariant-loop-cand
-invariant-loop-cand l = l.marks.items ≡ map (takes l.c l.variadic l.inputs) (take l.cand-index l.cands)
+abbrev pub invariant-loop-candidate : goal.invariant-loop-candidate
+invariant-loop-candidate l = l.marks.items ≡ map (takes l.c l.variadic l.inputs) (take l.candidate-index l.candidates)

@@ -8,7 +8,7 @@ use Rattle.xp_func.proofs.candidates.forms.Given as goal
 -- those so far, and those among the functions from here on
 abbrev pub invariant-loop-number : goal.invariant-loop-number
 invariant-loop-number l = record {
-  list : l.cands.items ++ forms_from (named_forms l.c l.name l.count l.plain) l.number (drop l.number l.c.funcs) ≡ forms_from (named_forms l.c l.name l.count l.plain) 0 l.c.funcs;
-  known : All (IsCandidate l.c l.count) l.cands.items;
-  rows : All (λ cand. cand.row.0 < length l.c.funcs) l.cands.items;
+  list : l.candidates.items ++ forms_from (named_forms l.c l.name l.count l.plain) l.number (drop l.number l.c.funcs) ≡ forms_from (named_forms l.c l.name l.count l.plain) 0 l.c.funcs;
+  known : All (IsCandidate l.c l.count) l.candidates.items;
+  rows : All (λ candidate. candidate.row.0 < length l.c.funcs) l.candidates.items;
 }

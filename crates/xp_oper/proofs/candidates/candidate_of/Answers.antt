@@ -4,7 +4,6 @@ use Rattle.xp_base.specs.declared.numbers.TypeNo.{TypeNo}
 use Rattle.xp_catalog.specs.Contents.{Contents}
 use Rattle.xp_catalog.specs.Lookups.{operands}
 use Rattle.xp_types.specs.Within.{AreTypes, IsType}
-use Rattle.xp_candidates.proofs.OneType.{one-type}
 use Rattle.xp_oper.proofs.candidates.candidate_of.Goals as goal
 
 AreTypes-operands : (c : Contents) (left : Option TypeNo) (right : TypeNo) → IfSome left (λ type. type.0 < length c.types) → IsType c right → AreTypes c (operands left right)
@@ -14,7 +13,6 @@ AreTypes-operands c (Some left) right known own = All-cons (IsType c) left (righ
 pub returns-clause-known : goal.returns-clause-known
 returns-clause-known c = record {
   arity = ap length c.in_ok-operands.ensures;
-  declared = rw c.in_ok-operands.ensures (AreTypes-operands c.args.c.now c.args.oper.now.left c.args.oper.now.right c.requires.known.left c.requires.known.right);
-  yields = c.func_row.ensures.known.result;
-  one_type = one-type c.requires.rules.count c.args.c.now c.requires.rules.built c.args.oper.now.function.0 c.func_row.result.now c.func_row.ensures.row;
+  declared = rw c.in_ok-operands.ensures (AreTypes-operands c.args.c.now c.args.oper.now.left c.args.oper.now.right c.requires.left c.requires.right);
+  result_type = c.func_row.ensures.known.result;
 }

@@ -8,7 +8,7 @@ use Rattle.xp_oper.proofs.candidates.candidates.Given as goal
 -- those so far, and those among the operators from here on
 abbrev pub invariant-loop-number : goal.invariant-loop-number
 invariant-loop-number l = record {
-  list : l.cands.items ++ forms_from (form_of l.c l.name l.count) l.number (drop l.number l.c.opers) ≡ candidates l.c l.name l.count;
-  known : All (IsCandidate l.c l.count) l.cands.items;
-  rows : All (λ cand. cand.row.0 < length l.c.opers) l.cands.items;
+  list : l.candidates.items ++ forms_from (form_of l.c l.name l.count) l.number (drop l.number l.c.opers) ≡ candidates l.c l.name l.count;
+  known : All (IsCandidate l.c l.count) l.candidates.items;
+  rows : All (λ candidate. candidate.row.0 < length l.c.opers) l.candidates.items;
 }

@@ -1,10 +1,11 @@
 use Rattle.std.proofs.Common.{◌≡◌, ◌<◌, ◌≤◌, ℕ, false, ◌&&◌, ◌==◌, get_or}
-use Rattle.xp_overload.specs.Matches.{matches_at}
+use Rattle.xp_overload.specs.Places.{slots_at}
+use Rattle.xp_overload.specs.Matches.{matches}
 use Rattle.xp_overload.proofs.matches.keep_most.Given as goal
 
 -- the marks below the place also ask for the test, and those from there on stand as they stood
 abbrev pub invariant-loop-place : goal.invariant-loop-place
 invariant-loop-place l = record {
-  below : (k : ℕ) → k < l.place → get_or l.keep k false ≡ (get_or l.initial.keep k false && (matches_at l.kind l.cands l.inputs k == l.most));
+  below : (k : ℕ) → k < l.place → get_or l.keep k false ≡ (get_or l.initial.keep k false && (matches l.kind l.inputs (slots_at l.candidates k) == l.most));
   behind : (k : ℕ) → l.place ≤ k → get_or l.keep k false ≡ get_or l.initial.keep k false;
 }

@@ -5,4 +5,4 @@ use Rattle.xp_poly.proofs.acceptance.all_compatible.Given as goal
 
 -- the inputs from here on answer as all do
 abbrev pub invariant-loop-given : goal.invariant-loop-given
-invariant-loop-given l = list_all (fits_compatible l.c l.t l.range) (drop l.given-index l.inputs) ≡ list_all (fits_compatible l.c l.t l.range) l.inputs
+invariant-loop-given l = list_all (fits_compatible l.c l.ty l.range) (drop l.given-index l.inputs) ≡ list_all (fits_compatible l.c l.ty l.range) l.inputs

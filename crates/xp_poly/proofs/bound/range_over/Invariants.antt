@@ -6,4 +6,4 @@ use Rattle.xp_poly.proofs.bound.range_over.Given as goal
 
 -- the ranges from here on answer as all do
 abbrev pub invariant-loop-row : goal.invariant-loop-row
-invariant-loop-row l = option_map_or (λ range. range.ty) (find (λ range. is_same range.subtype l.t) (drop l.row l.c.ranges)) unknown ≡ range_over l.c l.t
+invariant-loop-row l = option_map_or (λ range. range.ty) (find (λ range. is_same range.subtype l.ty) (drop l.row l.c.ranges)) unknown ≡ range_over l.c l.ty

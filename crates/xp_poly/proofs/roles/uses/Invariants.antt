@@ -3,5 +3,5 @@ use Rattle.xp_poly.specs.Acceptance.{uses}
 use Rattle.xp_poly.proofs.roles.uses.Given as goal
 
 -- the types from here on answer as all do
-abbrev pub invariant-loop-t : goal.invariant-loop-t
-invariant-loop-t l = uses l.c l.family (drop l.t-index l.declared) ≡ uses l.c l.family l.declared
+abbrev pub invariant-loop-ty : goal.invariant-loop-ty
+invariant-loop-ty l = uses l.c l.family (drop l.ty-index l.declared) ≡ uses l.c l.family l.declared
