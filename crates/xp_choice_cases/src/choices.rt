@@ -31,6 +31,7 @@ fn candidate_named(alloc: Global, c: &Catalog, text: &str) -> Result<(CandSlots,
 
 /// Chooses between two candidates behind one that was discarded before, which would match exactly.
 /// Tells which is chosen, and which are left, by their places.
+#[tactic(auto, using(crate::proofs::ShortLists::three_have_slots))]
 pub fn choose_answer(alloc: Global, c: &Catalog, text: &str) -> Result<String> {
     let mut lists = text.split(" | ");
     let (Some(inputs), Some(second), Some(third)) = (lists.next(), lists.next(), lists.next())
