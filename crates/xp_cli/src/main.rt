@@ -1,19 +1,15 @@
-//! `xp_cli run CATALOG SCRIPT`: types and evaluates the statements of a script over a catalogue.
+//! `xp_cli run CATALOG SCRIPT`: types and evaluates the statements of a script over a catalogue. It
+//! hands the words, the files and standard output to `xp_run`, and writes the line of an ending
+//! other than `Done` to standard error; it decides nothing else.
 #![tactic(auto)]
 
-mod message;
-mod shelf;
-mod sink;
-
-use message::Message;
-use shelf::FileShelf;
-use sink::StdSink;
 use std::alloc::Global;
 use std::process::ExitCode;
 use std::rt::Env;
 use std::{env, io};
 use xp_base::Txt;
-use xp_run::{Ending, Exit, run};
+use xp_files::{FileShelf, StdSink};
+use xp_run::{Ending, exit_of, run};
 
 /// The words behind the program's name.
 fn words<R: Env + AllocGlobal>(rt: &R) -> io::Result<Vec<Txt>> {
@@ -25,16 +21,10 @@ fn words<R: Env + AllocGlobal>(rt: &R) -> io::Result<Vec<Txt>> {
 }
 
 /// How a run ends whose words could not be read: a word that isn't UTF-8 is no word of a command.
-fn unread(error: io::Error) -> Exit {
+fn unread(error: io::Error) -> Ending {
     match error.kind() {
-        io::ErrorKind::OutOfMemory => Exit {
-            status: 5,
-            end: Ending::Memory,
-        },
-        _ => Exit {
-            status: 2,
-            end: Ending::BadWords,
-        },
+        io::ErrorKind::OutOfMemory => Ending::Memory,
+        _ => Ending::BadWords,
     }
 }
 
@@ -47,13 +37,10 @@ fn main(rt: HostRuntime) -> ExitCode {
             &mut FileShelf::new(&rt),
             &mut StdSink::new(&rt),
         ),
-        Err(error) => unread(error),
+        Err(error) => exit_of(unread(error), true),
     };
-    if let Some(message) = Message::of(exit.end) {
-        let _ = rt.eprintln(message);
+    if !matches!(exit.end, Ending::Done { .. }) {
+        let _ = rt.eprintln(exit.end);
     }
     ExitCode::from(exit.status)
 }
-
-#[cfg(test)]
-mod tests;

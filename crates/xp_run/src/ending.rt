@@ -2,9 +2,10 @@
 ghost use Rattle.std.specs.Prelude.{◌≡◌};
 ghost use Rattle.xp_run.specs.Status.{status_of};
 
+use std::fmt;
 use xp_catalog::Why;
 
-/// How a run ended.
+/// How a run ended. It shows as the line that the program writes of it.
 #[derive(Clone, Copy, Debug, PartialEq, Eq)]
 pub enum Ending {
     /// The whole report is written. `steps` is how many machine steps its statements took.
@@ -20,6 +21,23 @@ pub enum Ending {
     /// The sink failed.
     WriteFault,
     Memory,
+}
+
+impl fmt::Display for Ending {
+    fn fmt<W: fmt::Write>(&self, f: &mut fmt::Formatter<W>) -> fmt::Result {
+        match self {
+            Ending::Done { steps } => write!(f, "Done {steps}"),
+            Ending::BadWords => f.write_str("BadWords"),
+            Ending::BadCatalog { line, why } => {
+                let why = why.word();
+                write!(f, "BadCatalog line {line} {why}")
+            }
+            Ending::TooLong { read } => write!(f, "TooLong {read}"),
+            Ending::ReadFault => f.write_str("ReadFault"),
+            Ending::WriteFault => f.write_str("WriteFault"),
+            Ending::Memory => f.write_str("Memory"),
+        }
+    }
 }
 
 /// How a run ended, and the status of its process.

@@ -16,9 +16,6 @@ mod value;
 mod words;
 mod worked;
 
-pub use ending::{Ending, Exit};
+pub use ending::{Ending, Exit, exit_of};
 pub use program::run;
 pub use worked::worked_reports;
-
-#[cfg(test)]
-mod tests;
