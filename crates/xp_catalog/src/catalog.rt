@@ -134,6 +134,14 @@ impl Catalog {
         &self.ranges.as_slice()[row.0 as usize]
     }
 
+    /// A law: the catalogue is made of records that keep the rules. It does nothing: a proof is told so
+    /// where it is called.
+    pub fn is_well_formed_law(&self)
+        ensures { IsWellFormed self.now }
+    {
+        let _counts = self.counts();
+    }
+
     /// The numbers of rows, and that the catalogue is made of records that keep the rules.
     pub fn counts(&self) -> Counts
         ensures types { result.types ≡ length self.now.types }

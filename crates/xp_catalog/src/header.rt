@@ -68,9 +68,7 @@ impl Header {
         ensures ok { OnOk result (self.new ≡ self.old ++ column ∷ []) }
         ensures err { OnErr result (self.new ≡ self.old) }
     {
-        match self.columns.push(column) {
-            Ok(()) => Ok(()),
-            Err(_) => Err(Memory),
-        }
+        self.columns.push(column)?;
+        Ok(())
     }
 }

@@ -33,5 +33,5 @@ pub fn elements_are_no_arrays(c: &Catalog, ty: TypeNo)
     ensures { IfSome (element c.now ty) (λ type. element c.now type ≡ None) }
 {
     // no record gives an array over an array
-    c.counts();
+    c.is_well_formed_law();
 }

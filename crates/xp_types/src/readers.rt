@@ -25,7 +25,7 @@ pub fn base(c: &Catalog, ty: TypeNo) -> TypeNo
     ensures plain { is_domain c.now result ≡ false }
 {
     // no record gives a domain over a domain
-    c.counts();
+    c.is_well_formed_law();
     match c.type_row(ty).kind {
         TypeKind::Domain { row } => c.domain_row(row).base,
         _ => ty,
