@@ -12,7 +12,7 @@ use Rattle.xp_types.proofs.Others.{common-same, with_calls}
 use Rattle.xp_poly.specs.Members.{given, range_given}
 use Rattle.xp_poly.specs.Acceptance.{accepts, accepts_first, accepts_plain, compatible_type, counted, fit_compatible, one_of, uses}
 use Rattle.xp_poly.specs.Bound.{bonds, bound, concrete, concrete_at, concrete_types, first_bond, is_indeterminate}
-use Rattle.xp_poly.specs.declared.roles.Family.TheVariants.{First, Second}
+use Rattle.xp_catalog.specs.declared.rows.Family.TheVariants.{First, Second}
 use Rattle.xp_poly.specs.declared.members.KnownInput.{KnownInput}
 use Rattle.xp_poly.specs.declared.bound.Binding.TheVariants.{Concrete, Indeterminate}
 

@@ -6,7 +6,7 @@ use Rattle.xp_poly.specs.Members.{given}
 use Rattle.xp_poly.specs.Bound.{concrete_at, concrete_types, first_bond, has_no_element, is_indeterminate, second_bond}
 use Rattle.xp_poly.specs.declared.bound.Bond.{Bond}
 use Rattle.xp_poly.specs.declared.members.KnownInput.{KnownInput}
-use Rattle.xp_poly.specs.declared.roles.Family.TheVariants.{First, Second}
+use Rattle.xp_catalog.specs.declared.rows.Family.TheVariants.{First, Second}
 
 pub types_written : (c : Contents) (declared inputs out new : List TypeNo) (first second : List KnownInput) (one two : Bond)
     → first ≡ given c First (zip declared inputs) → second ≡ given c Second (zip declared inputs)

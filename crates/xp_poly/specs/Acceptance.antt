@@ -12,8 +12,8 @@ use Rattle.xp_types.specs.declared.common_type.CommonType.{CommonType}
 use Rattle.xp_types.specs.declared.common_type.CommonType.TheVariants as common_is
 use Rattle.xp_poly.specs.Roles.{is_of, role}
 use Rattle.xp_poly.specs.Members.{counts_as, given, is_of_range, range_given}
-use Rattle.xp_poly.specs.declared.roles.Family.{Family}
-use Rattle.xp_poly.specs.declared.roles.Family.TheVariants.{First, Second}
+use Rattle.xp_catalog.specs.declared.rows.Family.{Family}
+use Rattle.xp_catalog.specs.declared.rows.Family.TheVariants.{First, Second}
 use Rattle.xp_poly.specs.declared.roles.Form.{Form}
 use Rattle.xp_poly.specs.declared.roles.Form.TheVariants.{Element, NonArray, Array, Range}
 use Rattle.xp_poly.specs.declared.roles.Role.{Role}

@@ -9,8 +9,8 @@ use Rattle.xp_types.specs.Within.{IsType}
 use Rattle.xp_poly.specs.Roles.{role}
 use Rattle.xp_poly.specs.Members.{given, range_given}
 use Rattle.xp_poly.specs.Acceptance.{array_type, compatible_type, element_type, is_empty, uses}
-use Rattle.xp_poly.specs.declared.roles.Family.{Family}
-use Rattle.xp_poly.specs.declared.roles.Family.TheVariants.{First, Second}
+use Rattle.xp_catalog.specs.declared.rows.Family.{Family}
+use Rattle.xp_catalog.specs.declared.rows.Family.TheVariants.{First, Second}
 use Rattle.xp_poly.specs.declared.roles.Form.{Form}
 use Rattle.xp_poly.specs.declared.roles.Form.TheVariants.{Element, NonArray, Array, Range}
 use Rattle.xp_poly.specs.declared.roles.Role.{Role}

@@ -6,7 +6,7 @@ use Rattle.xp_catalog.specs.Contents.{Contents}
 use Rattle.xp_types.specs.Readers.{base, element, is_known, is_same, subtype}
 use Rattle.xp_types.specs.Within.{IsType}
 use Rattle.xp_poly.specs.Roles.{is_family, role}
-use Rattle.xp_poly.specs.declared.roles.Family.{Family}
+use Rattle.xp_catalog.specs.declared.rows.Family.{Family}
 use Rattle.xp_poly.specs.declared.roles.Form.{Form}
 use Rattle.xp_poly.specs.declared.roles.Form.TheVariants.{Element, NonArray, Array, Range}
 use Rattle.xp_poly.specs.declared.roles.Role.{Role}

@@ -5,8 +5,8 @@ use Rattle.xp_catalog.specs.declared.rows.PseudoType.{PseudoType}
 use Rattle.xp_catalog.specs.declared.rows.PseudoType.TheVariants as pseudo
 use Rattle.xp_catalog.specs.Contents.{Contents}
 use Rattle.xp_types.specs.Readers.{pseudo_type}
-use Rattle.xp_poly.specs.declared.roles.Family.{Family}
-use Rattle.xp_poly.specs.declared.roles.Family.TheVariants.{First, Second}
+use Rattle.xp_catalog.specs.declared.rows.Family.{Family}
+use Rattle.xp_catalog.specs.declared.rows.Family.TheVariants.{First, Second}
 use Rattle.xp_poly.specs.declared.roles.Form.TheVariants.{Element, NonArray, Array, Range}
 use Rattle.xp_poly.specs.declared.roles.Role.{Role}
 use Rattle.xp_poly.specs.declared.roles.Role.TheVariants.{Plain, Any, Member}

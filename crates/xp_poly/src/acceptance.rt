@@ -6,10 +6,10 @@ ghost use Rattle.xp_poly.specs.Members.{AreKnownTypes, given, range_given};
 ghost use Rattle.xp_poly.specs.Acceptance.{accepts, accepts_first, accepts_plain, accepts_second, array_type, compatible_type, counted, element_type, fit_compatible, fit_element, fits_compatible, fits_element, one_of, plain_accepts, reaches};
 
 use crate::members::{KnownInput, NOTHING, counts_as, given, is_of_range, range_given};
-use crate::roles::{Family, Form, Role, declared_role, has_nonarray, uses};
+use crate::roles::{Form, Role, declared_role, has_nonarray, uses};
 use crate::room::{ROOM, put};
 use xp_base::TypeNo;
-use xp_catalog::Catalog;
+use xp_catalog::{Catalog, Family};
 use xp_types::{CommonType, UNKNOWN, array_of, base, common, converts, is_array};
 
 fn accepts_plain(c: &Catalog, declared: TypeNo, input: TypeNo) -> bool

@@ -8,14 +8,14 @@ ghost use Rattle.xp_poly.specs.Members.{AreKnownTypes, given};
 ghost use Rattle.xp_poly.specs.Acceptance.{accepts};
 ghost use Rattle.xp_poly.specs.Bound.{AreBonds, IfConcrete, IsBond, bond_of, any_type, bonds, bound, concrete, concrete_at, concrete_by, concrete_types, first_bond, has_no_element, is_indeterminate, member_type, range_over, second_bond};
 ghost use Rattle.xp_poly.specs.Roles.{role};
-ghost use Rattle.xp_poly.specs.declared.roles.Family.TheVariants.{First, Second};
+ghost use Rattle.xp_catalog.specs.declared.rows.Family.TheVariants.{First, Second};
 
 use crate::acceptance::{array_type, compatible_type, element_type};
 use crate::members::{KnownInput, NOTHING, given, range_given};
-use crate::roles::{Family, Form, Role, declared_role, uses};
+use crate::roles::{Form, Role, declared_role, uses};
 use crate::room::ROOM;
 use xp_base::{RowNo, TypeNo};
-use xp_catalog::Catalog;
+use xp_catalog::{Catalog, Family};
 use xp_types::{UNKNOWN, is_known};
 
 /// What a call's polymorphic types come to.

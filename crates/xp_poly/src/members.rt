@@ -3,10 +3,10 @@ ghost use Rattle.std.specs.Prelude.{◌≡◌, ◌<◌, ◌≤◌, All, IfSome, 
 ghost use Rattle.xp_types.specs.Within.{AreTypes, IsType};
 ghost use Rattle.xp_poly.specs.Members.{AreKnownTypes, counts_as, counts_by, given, given_at, given_by, is_of_range, is_range_form, range_given};
 
-use crate::roles::{Family, Form, Role, declared_role};
+use crate::roles::{Form, Role, declared_role, is_family};
 use crate::room::put;
 use xp_base::TypeNo;
-use xp_catalog::Catalog;
+use xp_catalog::{Catalog, Family};
 use xp_types::{UNKNOWN, base, element, is_known, subtype};
 
 /// A known input, and what its position stands for.
@@ -26,7 +26,10 @@ fn given_by(family: Family, input: TypeNo, role: Role) -> Option<KnownInput>
     ensures { result ≡ given_by family input role }
 {
     match role {
-        Role::Member { family: of, form } if family.is(of) => Some(KnownInput { form, input }),
+        Role::Member { family: of, form } if is_family(family, of) => Some(KnownInput {
+            form,
+            input,
+        }),
         _ => None,
     }
 }

@@ -6,17 +6,8 @@ ghost use Rattle.xp_poly.specs.Roles.{is_family, is_of, role, role_of};
 ghost use Rattle.xp_poly.specs.Acceptance.{has_nonarray, is_nonarray, uses};
 
 use xp_base::TypeNo;
-use xp_catalog::{Catalog, PseudoType};
+use xp_catalog::{Catalog, Family, PseudoType};
 use xp_types::pseudo_type;
-
-/// The two families of polymorphic types.
-#[derive(Clone, Copy, Debug, PartialEq, Eq)]
-pub enum Family {
-    /// Those whose members are of one element type in a call.
-    First,
-    /// Those whose members are brought to a common type.
-    Second,
-}
 
 /// What a member of a family stands for, by the family's type.
 #[derive(Clone, Copy, Debug, PartialEq, Eq)]
@@ -41,14 +32,13 @@ pub enum Role {
     Member { family: Family, form: Form },
 }
 
-impl Family {
-    pub fn is(self, of: Family) -> bool
-        ensures { result ≡ is_family self of }
-    {
-        match (self, of) {
-            (Family::First, Family::First) | (Family::Second, Family::Second) => true,
-            _ => false,
-        }
+/// Whether the two are one family.
+pub fn is_family(family: Family, of: Family) -> bool
+    ensures { result ≡ is_family family of }
+{
+    match (family, of) {
+        (Family::First, Family::First) | (Family::Second, Family::Second) => true,
+        _ => false,
     }
 }
 
@@ -57,7 +47,7 @@ impl Role {
         ensures { result ≡ is_of family self }
     {
         match self {
-            Role::Member { family: of, .. } => family.is(of),
+            Role::Member { family: of, .. } => is_family(family, of),
             _ => false,
         }
     }

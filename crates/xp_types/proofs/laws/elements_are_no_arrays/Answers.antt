@@ -11,4 +11,4 @@ by c t None well is = tt
 by c t (Some e) well is = elements_flat c t e well is
 
 pub returns : goal.returns
-returns c = by c.args.c.now c.args.ty (element c.args.c.now c.args.ty) c.counts.ensures.rules refl
+returns c = by c.args.c.now c.args.ty (element c.args.c.now c.args.ty) c.is_well_formed_law.ensures refl
