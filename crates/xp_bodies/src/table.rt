@@ -50,76 +50,58 @@ macro_rules! rows {
     };
 }
 
-static ARITHMETIC: [BodySig; 36] = bodies_of!(arithmetic, rows);
-
-static COMPARISONS: [BodySig; 54] = bodies_of!(comparisons, rows);
-
-static INTEGERS: [BodySig; 46] = bodies_of!(integers, rows);
-
-static NUMERICS: [BodySig; 30] = bodies_of!(numerics, rows);
-
-static TEXTS: [BodySig; 43] = bodies_of!(texts, rows);
-
-static EDITS: [BodySig; 34] = bodies_of!(edits, rows);
-
-static DATES: [BodySig; 12] = bodies_of!(dates, rows);
-
-static ARRAYS: [BodySig; 26] = bodies_of!(arrays, rows);
-
-static RANGES: [BodySig; 33] = bodies_of!(ranges, rows);
-
 fn arithmetic() -> &'static [BodySig]
     ensures { map (λ row. row_of row) result.now ≡ arithmetic }
 {
-    &ARITHMETIC
+    &bodies_of!(arithmetic, rows)
 }
 
 fn comparisons() -> &'static [BodySig]
     ensures { map (λ row. row_of row) result.now ≡ comparisons }
 {
-    &COMPARISONS
+    &bodies_of!(comparisons, rows)
 }
 
 fn integers() -> &'static [BodySig]
     ensures { map (λ row. row_of row) result.now ≡ integers }
 {
-    &INTEGERS
+    &bodies_of!(integers, rows)
 }
 
 fn numerics() -> &'static [BodySig]
     ensures { map (λ row. row_of row) result.now ≡ numerics }
 {
-    &NUMERICS
+    &bodies_of!(numerics, rows)
 }
 
 fn texts() -> &'static [BodySig]
     ensures { map (λ row. row_of row) result.now ≡ texts }
 {
-    &TEXTS
+    &bodies_of!(texts, rows)
 }
 
 fn edits() -> &'static [BodySig]
     ensures { map (λ row. row_of row) result.now ≡ edits }
 {
-    &EDITS
+    &bodies_of!(edits, rows)
 }
 
 fn dates() -> &'static [BodySig]
     ensures { map (λ row. row_of row) result.now ≡ dates }
 {
-    &DATES
+    &bodies_of!(dates, rows)
 }
 
 fn arrays() -> &'static [BodySig]
     ensures { map (λ row. row_of row) result.now ≡ arrays }
 {
-    &ARRAYS
+    &bodies_of!(arrays, rows)
 }
 
 fn ranges() -> &'static [BodySig]
     ensures { map (λ row. row_of row) result.now ≡ ranges }
 {
-    &RANGES
+    &bodies_of!(ranges, rows)
 }
 
 /// All rows. A body's number is its place among them.
