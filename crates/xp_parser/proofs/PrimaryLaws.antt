@@ -10,7 +10,7 @@ use Rattle.xp_grammar.specs.Table.{Cases}
 use Rattle.xp_grammar.specs.Table.{Level as l}
 use Rattle.xp_grammar.specs.Machine.{◌>>=◌, expect, first, onward, parse, more}
 use Rattle.xp_grammar.proofs.Straight.{reach, again, parse_straight, more_straight}
-use Rattle.xp_parser.specs.inner.Parts.{arm_then, more_arms_part, end_then, case_then, call_then, named_then, paren_then, cast_then, selection_then, nullif_then, array_then, position_then, extract_then, listed_then, begun_then, ended_then, substring_then, source_then, set_source_then, trimmed_then, sided_then, trim_then, forms_part, primary_part}
+use Rattle.xp_parser.specs.inner.Parts.{arm_then, more_arms_part, end_then, case_then, call_then, named_then, paren_then, cast_then, selection_then, nullif_then, array_then, position_then, extract_then, listed_then, begun_then, ended_then, substring_then, source_then, set_source_then, trimmed_then, sided_then, trim_then, forms_part, worded_part, primary_part}
 
 or_none : (a : Bool) → a || false ≡ a
 or_none a = grind arith
@@ -28,5 +28,5 @@ unfolding reach again arm_then more_arms_part
 more_arms arms ts = more_straight l.Arms (Cases arms) ts
 
 pub primary_is : (ts : List Token) → parse l.E12 ts ≡ primary_part ts
-unfolding reach onward end_then case_then call_then named_then paren_then cast_then selection_then nullif_then array_then position_then extract_then listed_then begun_then ended_then substring_then source_then set_source_then trimmed_then sided_then trim_then forms_part primary_part
+unfolding reach onward end_then case_then call_then named_then paren_then cast_then selection_then nullif_then array_then position_then extract_then listed_then begun_then ended_then substring_then source_then set_source_then trimmed_then sided_then trim_then forms_part worded_part primary_part
 primary_is ts = parse_straight l.E12 ts

@@ -7,7 +7,9 @@
 use Rattle.std.specs.Prelude.{ℕ, ◌+◌, max, nat_lt, List, [], ◌∷◌, Option, Some, None, if◌then◌else◌}
 use Rattle.xp_base.specs.declared.limits.TheConstants.{DEPTH_LIMIT}
 use Rattle.xp_token.specs.declared.token.Token.{Token}
+use Rattle.xp_token.specs.declared.words.Word.{Word}
 use Rattle.xp_token.specs.declared.words.Word.TheVariants as word
+use Rattle.xp_token.specs.declared.token.Mark.{Mark}
 use Rattle.xp_token.specs.declared.token.Mark.TheVariants as mark
 use Rattle.xp_grammar.specs.declared.kind.Kind.{Kind}
 use Rattle.xp_grammar.specs.declared.kind.Kind.TheVariants as k
@@ -15,6 +17,36 @@ use Rattle.xp_grammar.specs.Kinds.{kind, same}
 use Rattle.xp_parser.specs.declared.depth.Part.{Part}
 use Rattle.xp_parser.specs.declared.depth.Role.{Role}
 use Rattle.xp_parser.specs.declared.depth.Role.TheVariants.{Plain, Joint, Bracket, Opening, Closing, Divider}
+
+-- what a reserved word does
+abbrev pub word_role : Word → Role
+word_role word.And = Joint
+word_role word.Or = Joint
+word_role word.Not = Joint
+word_role word.Is = Joint
+word_role word.Isnull = Joint
+word_role word.Notnull = Joint
+word_role word.Between = Joint
+word_role word.In = Joint
+word_role word.Like = Joint
+word_role word.Ilike = Joint
+word_role word.Case = Opening
+word_role word.End = Closing
+word_role word.When = Divider
+word_role word.Then = Divider
+word_role word.Else = Divider
+word_role word.Union = Divider
+word_role _ = Plain
+
+-- what a mark does behind a token of a kind
+abbrev pub mark_role : Kind → Mark → Role
+mark_role before mark.DoubleColon = Joint
+mark_role before mark.OpenBracket = if same before (k.Word word.Array) then Opening else Bracket
+mark_role before mark.OpenParen = Opening
+mark_role before mark.CloseParen = Closing
+mark_role before mark.CloseBracket = Closing
+mark_role before mark.Comma = Divider
+mark_role before _ = Plain
 
 -- what a token of the second kind does behind one of the first
 abbrev pub role_of : Kind → Kind → Role
@@ -24,28 +56,8 @@ role_of before k.Power = Joint
 role_of before k.Compare = Joint
 role_of before k.Other = Joint
 role_of before k.Arrow = Joint
-role_of before (k.Mark mark.DoubleColon) = Joint
-role_of before (k.Word word.And) = Joint
-role_of before (k.Word word.Or) = Joint
-role_of before (k.Word word.Not) = Joint
-role_of before (k.Word word.Is) = Joint
-role_of before (k.Word word.Isnull) = Joint
-role_of before (k.Word word.Notnull) = Joint
-role_of before (k.Word word.Between) = Joint
-role_of before (k.Word word.In) = Joint
-role_of before (k.Word word.Like) = Joint
-role_of before (k.Word word.Ilike) = Joint
-role_of before (k.Mark mark.OpenBracket) = if same before (k.Word word.Array) then Opening else Bracket
-role_of before (k.Mark mark.OpenParen) = Opening
-role_of before (k.Word word.Case) = Opening
-role_of before (k.Mark mark.CloseParen) = Closing
-role_of before (k.Mark mark.CloseBracket) = Closing
-role_of before (k.Word word.End) = Closing
-role_of before (k.Mark mark.Comma) = Divider
-role_of before (k.Word word.When) = Divider
-role_of before (k.Word word.Then) = Divider
-role_of before (k.Word word.Else) = Divider
-role_of before (k.Word word.Union) = Divider
+role_of before (k.Word w) = word_role w
+role_of before (k.Mark m) = mark_role before m
 role_of before _ = Plain
 
 -- a part of a group: the joints of its last section, the deepest group in that section, and the deepest of the sections before

@@ -53,41 +53,55 @@ struct Groups {
     ghost around: { kept.around (reverse outer.items) ≤ DEPTH_LIMIT },
 }
 
-/// What a token of this kind does, where a token of the other kind stands before it.
-fn role_of(before: Kind, kind: Kind) -> Role
-    ensures { result ≡ spec.role_of before kind }
+fn word_role(word: Word) -> Role
+    ensures { result ≡ spec.word_role word }
 {
-    match kind {
-        Kind::Sign
-        | Kind::Times
-        | Kind::Power
-        | Kind::Compare
-        | Kind::Other
-        | Kind::Arrow
-        | Kind::Mark(Mark::DoubleColon)
-        | Kind::Word(
-            Word::And
-            | Word::Or
-            | Word::Not
-            | Word::Is
-            | Word::Isnull
-            | Word::Notnull
-            | Word::Between
-            | Word::In
-            | Word::Like
-            | Word::Ilike,
-        ) => Role::Joint,
-        Kind::Mark(Mark::OpenParen) | Kind::Word(Word::Case) => Role::Opening,
-        Kind::Mark(Mark::OpenBracket) => {
+    match word {
+        Word::And
+        | Word::Or
+        | Word::Not
+        | Word::Is
+        | Word::Isnull
+        | Word::Notnull
+        | Word::Between
+        | Word::In
+        | Word::Like
+        | Word::Ilike => Role::Joint,
+        Word::Case => Role::Opening,
+        Word::End => Role::Closing,
+        Word::When | Word::Then | Word::Else | Word::Union => Role::Divider,
+        _ => Role::Plain,
+    }
+}
+
+fn mark_role(before: Kind, mark: Mark) -> Role
+    ensures { result ≡ spec.mark_role before mark }
+{
+    match mark {
+        Mark::DoubleColon => Role::Joint,
+        Mark::OpenBracket => {
             if before == Kind::Word(Word::Array) {
                 Role::Opening
             } else {
                 Role::Bracket
             }
         }
-        Kind::Mark(Mark::CloseParen | Mark::CloseBracket) | Kind::Word(Word::End) => Role::Closing,
-        Kind::Mark(Mark::Comma) | Kind::Word(Word::When | Word::Then | Word::Else | Word::Union) =>
-            Role::Divider,
+        Mark::OpenParen => Role::Opening,
+        Mark::CloseParen | Mark::CloseBracket => Role::Closing,
+        Mark::Comma => Role::Divider,
+        _ => Role::Plain,
+    }
+}
+
+/// What a token of this kind does, where a token of the other kind stands before it.
+fn role_of(before: Kind, kind: Kind) -> Role
+    ensures { result ≡ spec.role_of before kind }
+{
+    match kind {
+        Kind::Sign | Kind::Times | Kind::Power | Kind::Compare | Kind::Other | Kind::Arrow =>
+            Role::Joint,
+        Kind::Word(word) => word_role(word),
+        Kind::Mark(mark) => mark_role(before, mark),
         _ => Role::Plain,
     }
 }

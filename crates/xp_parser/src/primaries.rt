@@ -37,6 +37,16 @@ impl<F: Fn(Global, Nested, &mut Cursor<'_>) -> Result<Boxed<Ast>, ParseError>> G
         if let Some(word) = tokens.eat(Class::Only(Kind::Word(Word::Cast))) {
             return self.cast_as(tokens, word);
         }
+        self.worded(tokens)
+    }
+
+    /// CASE, or a form with a word before its bracket.
+    #[tactic(auto, unfolding(crate::specs::inner::Parts::worded_part))]
+    fn worded(&self, tokens: &mut Cursor<'_>) -> Result<Boxed<Ast>, ParseError>
+        requires nests { Nests self.now.room (F.pre self.now.nested) (F.post self.now.nested) }
+        requires fewer { length tokens.old ≤ self.now.room }
+        ensures { Reads Tree (part.worded_part tokens.old) result tokens.new }
+    {
         if let Some(word) = tokens.eat(Class::Only(Kind::Word(Word::Case))) {
             return self.cases(tokens, word);
         }

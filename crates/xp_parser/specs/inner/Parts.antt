@@ -335,12 +335,14 @@ forms_part =
     (after (Only (k.Word word.Trim)) trim_then
     (expect (Only (k.Word word.Extract)) >>= extract_then)))))
 
+-- CASE, or a form with a word before its bracket
+unfoldable pub worded_part : Parser Value
+worded_part = after (Only (k.Word word.Case)) case_then (after Selections selection_then forms_part)
+
 unfoldable pub primary_part : Parser Value
 primary_part =
     after Constants (λ a. pure (made s.constant (Word a ∷ [])))
     (after Names named_then
     (after (Only (k.Mark mark.OpenParen)) paren_then
     (after (Only (k.Word word.Cast)) cast_then
-    (after (Only (k.Word word.Case)) case_then
-    (after Selections selection_then
-    forms_part)))))
+    worded_part)))
