@@ -18,7 +18,7 @@ use Rattle.xp_parser.specs.declared.chains.Chain.TheVariants as chains
 use Rattle.xp_parser.specs.declared.grammar.Nested.{Nested}
 use Rattle.xp_parser.specs.declared.grammar.Nested.TheVariants as inside
 use Rattle.xp_parser.specs.inner.Parts.{chain_level, chain_operator, chain_operand, chain_join, chain_part, nested, right_part, prefix_then}
-use Rattle.xp_parser.proofs.Steps.{after_same, expect_same, same_flip}
+use Rattle.xp_parser.proofs.Steps.{after_same, expect_same, other_flip}
 
 pub or_is : (ts : List Token) → parse l.E0 ts ≡ (parse l.E1 >>= (λ v. more l.E0 v)) ts
 unfolding reach more
@@ -57,7 +57,7 @@ prefix_is ts = parse_straight l.P ts ∙ expect_same (Only k.Other) _ _ ts (λ t
 pub right_is : (ts : List Token) → right_part ts ≡ after (Only k.Other) prefix_then (parse l.E7) ts
 unfolding right_part first
 right_is [] = refl
-right_is (t ∷ ts) = by (same (kind t) k.Other || false) (same k.Other (kind t)) (or-false (same (kind t) k.Other) ∙ same_flip (kind t) k.Other) (parse l.P (t ∷ ts)) (parse l.E7) (prefix_is (t ∷ ts))
+right_is (t ∷ ts) = by (same (kind t) k.Other || false) (same k.Other (kind t)) (or-false (same (kind t) k.Other) ∙ other_flip (kind t)) (parse l.P (t ∷ ts)) (parse l.E7) (prefix_is (t ∷ ts))
   where
     by : (b c : Bool) → b ≡ c → (p : Outcome Value) (q : Parser Value) → p ≡ and_then (if c then Ok (t, ts) else Err (length (t ∷ ts))) prefix_then
         → (if b then p else q (t ∷ ts)) ≡ and_then (if◌then◌else◌ {A = Outcome (Option Token)} c (Ok (Some t, ts)) (Ok (None, t ∷ ts))) (taken prefix_then q)

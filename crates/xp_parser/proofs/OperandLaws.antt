@@ -16,7 +16,7 @@ use Rattle.xp_grammar.proofs.Straight.{reach, again, parse_straight, more_straig
 use Rattle.xp_parser.specs.declared.operands.Operand.{Operand}
 use Rattle.xp_parser.specs.declared.operands.Operand.TheVariants as o
 use Rattle.xp_parser.specs.inner.Parts.{operand, signed_part, cast_part, lone, index_part, indexed, bracket_part, more_part}
-use Rattle.xp_parser.proofs.Steps.{after_same, pure_then, same_flip}
+use Rattle.xp_parser.proofs.Steps.{after_same, pure_then, whole_flip}
 
 pub signed_is : (ts : List Token) → parse l.E10 ts ≡ signed_part ts
 unfolding reach onward signed_part
@@ -50,7 +50,7 @@ lone_is a (n ∷ b ∷ us) r' r h e =
     ap (λ z. one_whole (take z (a ∷ n ∷ b ∷ us))) count ∙ by us (length us - length r) (omega (arith, few)) few
   where
     by : (ws : List Token) (j : ℕ) → j + length r ≡ length ws → length r ≤ length ws → one_whole (a ∷ n ∷ b ∷ take j ws) ≡ lone (n ∷ b ∷ ws) r'
-    by ws zero q f = and_is (same k.Whole (kind n)) (same (kind n) k.Whole) _ (same_flip k.Whole (kind n)) (equal_true (suc (suc (length ws))) (suc (length r')) (omega (arith, q, e)))
+    by ws zero q f = and_is (same k.Whole (kind n)) (same (kind n) k.Whole) _ (sym (whole_flip (kind n))) (equal_true (suc (suc (length ws))) (suc (length r')) (omega (arith, q, e)))
     by [] (suc j) q f = absurd (omega (arith, q))
     by (w ∷ ws) (suc j) q f = and_none (same (kind n) k.Whole) _ (equal_false (suc (length r')) (suc (suc (suc (length ws)))) (omega (arith, q, e)))
 

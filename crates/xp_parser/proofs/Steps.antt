@@ -5,6 +5,7 @@ use Rattle.xp_token.specs.declared.token.Token.{Token}
 use Rattle.xp_grammar.specs.declared.kind.Class.{Class}
 use Rattle.xp_grammar.specs.declared.ast.Ast.{Ast}
 use Rattle.xp_grammar.specs.declared.kind.Kind.{Kind}
+use Rattle.xp_grammar.specs.declared.kind.Kind.TheVariants as k
 use Rattle.xp_grammar.specs.Kinds.{kind, has, same}
 use Rattle.xp_grammar.specs.Table.{Level, Value, Word, Tree}
 use Rattle.xp_grammar.specs.Machine.{Outcome, Parser, and_then, ◌>>=◌, pure, expect, eat, taken, after, parse, more}
@@ -37,6 +38,57 @@ pub pure_then : {A B C : Type 0} (o : Outcome A) (g : A → B) (f : B → Parser
 pure_then (Ok p) g f = refl
 pure_then (Err n) g f = refl
 
--- a kind is another where that is this
-pub same_flip : (a b : Kind) → same a b ≡ same b a
-same_flip a b = grind arith
+-- a kind is one of these where it is this
+pub other_flip : (a : Kind) → same a k.Other ≡ same k.Other a
+other_flip k.Whole = refl
+other_flip k.Decimal = refl
+other_flip k.Wide = refl
+other_flip k.String = refl
+other_flip k.Name = refl
+other_flip k.Double = refl
+other_flip k.Precision = refl
+other_flip k.Character = refl
+other_flip k.Varying = refl
+other_flip k.Timestamp = refl
+other_flip k.Time = refl
+other_flip k.With = refl
+other_flip k.Without = refl
+other_flip k.Zone = refl
+other_flip k.Quoted = refl
+other_flip (k.Word w) = refl
+other_flip k.Sign = refl
+other_flip k.Times = refl
+other_flip k.Power = refl
+other_flip k.Compare = refl
+other_flip k.Other = refl
+other_flip k.Arrow = refl
+other_flip (k.Mark m) = refl
+other_flip k.EndOfStatement = refl
+other_flip k.Nothing = refl
+
+pub whole_flip : (a : Kind) → same a k.Whole ≡ same k.Whole a
+whole_flip k.Whole = refl
+whole_flip k.Decimal = refl
+whole_flip k.Wide = refl
+whole_flip k.String = refl
+whole_flip k.Name = refl
+whole_flip k.Double = refl
+whole_flip k.Precision = refl
+whole_flip k.Character = refl
+whole_flip k.Varying = refl
+whole_flip k.Timestamp = refl
+whole_flip k.Time = refl
+whole_flip k.With = refl
+whole_flip k.Without = refl
+whole_flip k.Zone = refl
+whole_flip k.Quoted = refl
+whole_flip (k.Word w) = refl
+whole_flip k.Sign = refl
+whole_flip k.Times = refl
+whole_flip k.Power = refl
+whole_flip k.Compare = refl
+whole_flip k.Other = refl
+whole_flip k.Arrow = refl
+whole_flip (k.Mark m) = refl
+whole_flip k.EndOfStatement = refl
+whole_flip k.Nothing = refl
