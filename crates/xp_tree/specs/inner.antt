@@ -1,0 +1,3 @@
+pub mod Coding
+pub mod Falls
+pub mod Heights
