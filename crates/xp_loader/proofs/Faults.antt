@@ -1,5 +1,5 @@
 -- A reader of records of any length fails of itself or of memory alone.
-use Rattle.std.proofs.Common.{◌≡◌, ℕ, List, Bool, true, false, Option, refl}
+use Rattle.std.proofs.Common.{◌≡◌, ℕ, List, true, false, Option, refl}
 use Rattle.csv.specs.Reading.{ExplainsRead, is_flexible, stops_reader}
 use Rattle.csv.specs.declared.error.ErrorKind.{ErrorKind}
 use Rattle.csv.specs.declared.error.ErrorKind.TheVariants as kind

@@ -1,5 +1,5 @@
 -- What a text is as a catalogue: its records one after another, up to the first that breaks a rule (this project's own).
-use Rattle.std.specs.Prelude.{◌≡◌, ℕ, ◌+◌, List, [], ◌∷◌, Bool, true, false, cond, nat_le, Option, Some, None, Result, Ok, Err}
+use Rattle.std.specs.Prelude.{ℕ, ◌+◌, List, [], ◌∷◌, Bool, true, false, cond, nat_le, Option, Some, None, Result, Ok, Err}
 use Rattle.std.specs.Option.{option_map_or}
 use Rattle.xp_base.specs.OrMemory.{OrMemory}
 use Rattle.xp_base.specs.declared.limits.TheConstants.{RECORD_LIMIT}

@@ -24,10 +24,7 @@ fn accept(alloc: Global, c: Catalog, line: u32, row: &ByteRecord) -> Result<Cata
         return Err(CatFault::TooManyRows { line });
     }
     match read(alloc, &c, line, row) {
-        Ok(record) => match c.add(record) {
-            Ok(more) => Ok(more),
-            Err(_) => Err(CatFault::Memory),
-        },
+        Ok(record) => Ok(c.add(record)?),
         Err(Refusal::Broken(why)) => Err(CatFault::Row { line, why }),
         Err(Refusal::Memory) => Err(CatFault::Memory),
     }
@@ -38,14 +35,9 @@ fn accept_all(alloc: Global, rows: &[ByteRecord]) -> Result<Catalog, CatFault>
     ensures answer { Loads (load_from first_contents 1 (map fields_of rows.now)) result }
     ensures fitted { IfOk result IsFitted }
 {
-    let Ok(mut catalog) = Catalog::empty(alloc) else {
-        return Err(CatFault::Memory);
-    };
+    let mut catalog = Catalog::empty(alloc)?;
     for (k, row) in rows.iter().enumerate() {
-        match accept(alloc, catalog, k as u32 + 1, row) {
-            Ok(more) => catalog = more,
-            Err(fault) => return Err(fault),
-        }
+        catalog = accept(alloc, catalog, k as u32 + 1, row)?;
     }
     Ok(catalog)
 }

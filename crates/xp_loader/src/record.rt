@@ -15,6 +15,7 @@ use crate::rules::{fits_body, has_function, has_good_args, has_good_base, is_new
 use crate::text::field;
 use csv::ByteRecord;
 use std::alloc::Global;
+use xp_base::Memory;
 use xp_catalog::{Catalog, Record, RecordKind, Why};
 
 /// Why there is no record: a rule is broken, or there was no memory.
@@ -22,6 +23,16 @@ use xp_catalog::{Catalog, Record, RecordKind, Why};
 pub enum Refusal {
     Broken(Why),
     Memory,
+}
+
+impl From<Memory> for Refusal {
+    ghost use Rattle.xp_loader.specs.declared.record.Refusal.TheVariants as refusal;
+
+    ghost from_gives = { λ _ e. e ≡ refusal.Memory };
+
+    fn from(_: Memory) -> Refusal {
+        Refusal::Memory
+    }
 }
 
 /// The first rule that the fields break by themselves.
@@ -88,13 +99,12 @@ fn read_row(
     requires named { is_named kind (fields_of row.now) ≡ true }
     ensures { Reads (first_broken row_rules c.now line (fields_of row.now)) (record_of c.now line (fields_of row.now)) result }
 {
-    match read_as(alloc, c, kind, line, row) {
-        Ok(Some(record)) => match broken_row(c, kind, row, &record) {
-            Some(why) => Err(Refusal::Broken(why)),
-            None => Ok(record),
-        },
-        Ok(None) => Err(Refusal::Broken(Why::UnknownType)),
-        Err(_) => Err(Refusal::Memory),
+    let Some(record) = read_as(alloc, c, kind, line, row)? else {
+        return Err(Refusal::Broken(Why::UnknownType));
+    };
+    match broken_row(c, kind, row, &record) {
+        Some(why) => Err(Refusal::Broken(why)),
+        None => Ok(record),
     }
 }
 

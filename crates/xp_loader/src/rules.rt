@@ -1,6 +1,7 @@
-//! The rules that look at what a record adds, against the rows of the records before it.
-ghost use Rattle.std.specs.Prelude.{◌≡◌, codes, is_some, option_map, slice_get, true};
-ghost use Rattle.std.specs.List.{list_any};
+//! The rules that look at what a record adds, against the rows of the records before it. Those on
+//! types are asked where each type that the record names is there.
+ghost use Rattle.std.specs.Prelude.{◌≡◌, ◌<◌, codes, is_some, length, option_map, slice_get, true};
+ghost use Rattle.std.specs.List.{All, list_any};
 ghost use Rattle.xp_catalog.specs.Lookups.{oper_at, operands};
 ghost use Rattle.xp_catalog.specs.Rules.{casts_by, has_function, has_good_args, has_good_base, has_good_last, has_known_types, has_member, is_castable, is_called, is_domain_kind, is_member, is_new, is_pseudo_kind, kind_of, is_range_over, may_be_binary, may_be_variadic, name_of, takes_exactly};
 ghost use Rattle.xp_loader.specs.Refusing.{fits_body};
@@ -56,12 +57,14 @@ fn is_range_over(name: &[u8], subtype: &[u8]) -> bool
 }
 
 fn is_domain(c: &Catalog, ty: TypeNo) -> bool
+    requires { ty.0 < length c.now.types }
     ensures { result ≡ is_domain_kind (kind_of c.now ty) }
 {
     matches!(kind_of(c, ty), TypeKind::Domain { .. })
 }
 
 fn is_pseudo_type(c: &Catalog, ty: TypeNo) -> bool
+    requires { ty.0 < length c.now.types }
     ensures { result ≡ is_pseudo_kind (kind_of c.now ty) }
 {
     matches!(kind_of(c, ty), TypeKind::Pseudo(_))
@@ -69,6 +72,7 @@ fn is_pseudo_type(c: &Catalog, ty: TypeNo) -> bool
 
 /// Whether a type is one over which a record's kind may define one, and the name one which it may give.
 pub fn has_good_base(c: &Catalog, r: &Record) -> bool
+    requires { has_known_types c.now r.now ≡ true }
     ensures { result ≡ has_good_base c.now r.now }
 {
     match r {
@@ -90,12 +94,14 @@ pub fn has_good_base(c: &Catalog, r: &Record) -> bool
 }
 
 fn is_called_any(c: &Catalog, ty: TypeNo) -> bool
+    requires { ty.0 < length c.now.types }
     ensures { result ≡ is_called c.now ty (codes "any") }
 {
     name_of(c, ty) == b"any".as_slice()
 }
 
 fn may_be_variadic(c: &Catalog, ty: TypeNo) -> bool
+    requires { ty.0 < length c.now.types }
     ensures { result ≡ may_be_variadic c.now ty }
 {
     matches!(
@@ -108,6 +114,7 @@ fn may_be_variadic(c: &Catalog, ty: TypeNo) -> bool
 }
 
 fn has_good_last(c: &Catalog, variadic: bool, args: &[TypeNo]) -> bool
+    requires { All (λ ty. ty.0 < length c.now.types) args.now }
     ensures { result ≡ has_good_last c.now variadic args.now }
 {
     if !variadic {
@@ -120,6 +127,7 @@ fn has_good_last(c: &Catalog, variadic: bool, args: &[TypeNo]) -> bool
 }
 
 fn is_member(c: &Catalog, family: Family, ty: TypeNo) -> bool
+    requires { ty.0 < length c.now.types }
     ensures { result ≡ is_member family (kind_of c.now ty) }
 {
     match kind_of(c, ty) {
@@ -129,18 +137,27 @@ fn is_member(c: &Catalog, family: Family, ty: TypeNo) -> bool
 }
 
 fn has_argument(c: &Catalog, family: Family, args: &[TypeNo]) -> bool
+    requires { All (λ ty. ty.0 < length c.now.types) args.now }
     ensures { result ≡ list_any (λ arg. is_member family (kind_of c.now arg)) args.now }
 {
-    args.iter().any(|arg| is_member(c, family, *arg))
+    for arg in args {
+        if is_member(c, family, *arg) {
+            return true;
+        }
+    }
+    false
 }
 
 fn has_member(c: &Catalog, family: Family, args: &[TypeNo], gives: TypeNo) -> bool
+    requires args { All (λ ty. ty.0 < length c.now.types) args.now }
+    requires gives { gives.0 < length c.now.types }
     ensures { result ≡ has_member c.now family args.now gives }
 {
     !is_member(c, family, gives) || has_argument(c, family, args)
 }
 
 fn has_good_signature(c: &Catalog, func: &FuncRow) -> bool
+    requires { has_known_types c.now (Record.Function func.now) ≡ true }
     ensures { result ≡ has_good_args c.now (Record.Function func.now) }
 {
     func.args.len() <= ARGUMENT_LIMIT as usize
@@ -151,6 +168,7 @@ fn has_good_signature(c: &Catalog, func: &FuncRow) -> bool
 }
 
 fn has_good_operands(c: &Catalog, oper: &OperRow) -> bool
+    requires { has_known_types c.now (Record.Operator oper.now) ≡ true }
     ensures { result ≡ has_good_args c.now (Record.Operator oper.now) }
 {
     match oper.left {
@@ -160,6 +178,7 @@ fn has_good_operands(c: &Catalog, oper: &OperRow) -> bool
 }
 
 fn may_be_binary(c: &Catalog, cast: &CastRow) -> bool
+    requires { has_known_types c.now (Record.Cast cast.now) ≡ true }
     ensures { result ≡ may_be_binary c.now cast.now }
 {
     is_opaque(c, cast.from)
@@ -168,12 +187,14 @@ fn may_be_binary(c: &Catalog, cast: &CastRow) -> bool
 }
 
 fn is_castable(c: &Catalog, ty: TypeNo) -> bool
+    requires { ty.0 < length c.now.types }
     ensures { result ≡ is_castable c.now ty }
 {
     !is_domain(c, ty) && !is_pseudo_type(c, ty)
 }
 
 fn has_good_types(c: &Catalog, cast: &CastRow) -> bool
+    requires { has_known_types c.now (Record.Cast cast.now) ≡ true }
     ensures { result ≡ has_good_args c.now (Record.Cast cast.now) }
 {
     is_castable(c, cast.from)
@@ -184,6 +205,7 @@ fn has_good_types(c: &Catalog, cast: &CastRow) -> bool
 
 /// Whether a function's arguments and result, an operator's operands and a cast's types may stand together.
 pub fn has_good_args(c: &Catalog, r: &Record) -> bool
+    requires { has_known_types c.now r.now ≡ true }
     ensures { result ≡ has_good_args c.now r.now }
 {
     match r {

@@ -1,67 +1,49 @@
-//! What is asked of a type of the catalogue. A number that is no type's has no name, and is a plain type's.
-ghost use Rattle.std.specs.Prelude.{◌≡◌, option_map, slice_get};
+//! What is asked of a type of the catalogue.
+ghost use Rattle.std.specs.Prelude.{◌≡◌, ◌<◌, IfSome, length};
 ghost use Rattle.std.specs.Option.{option_map_or};
+ghost use Rattle.xp_catalog.specs.Known.{IsKnownKind};
 ghost use Rattle.xp_catalog.specs.Rules.{is_opaque, kind_of, leaf, leaf_by, name_of};
 
-use xp_base::{RowNo, TypeNo};
+use xp_base::TypeNo;
 use xp_catalog::names::is_plain;
-use xp_catalog::{Catalog, TypeKind, TypeRow};
+use xp_catalog::{Catalog, TypeKind};
 
-fn type_row(c: &Catalog, t: TypeNo) -> Option<&TypeRow>
-    ensures { option_map (λ row. row.now) result ≡ slice_get c.now.types t.0 }
+pub fn name_of(c: &Catalog, ty: TypeNo) -> &[u8]
+    requires { ty.0 < length c.now.types }
+    ensures { result.now ≡ name_of c.now ty }
 {
-    if t.0 < c.counts().types {
-        Some(c.type_row(t))
-    } else {
-        None
-    }
+    c.type_row(ty).name.as_str().as_bytes()
 }
 
-pub fn name_of(c: &Catalog, t: TypeNo) -> &[u8]
-    ensures { result.now ≡ name_of c.now t }
+pub fn kind_of(c: &Catalog, ty: TypeNo) -> TypeKind
+    requires { ty.0 < length c.now.types }
+    ensures value { result ≡ kind_of c.now ty }
+    ensures known { IsKnownKind c.now result }
 {
-    match type_row(c, t) {
-        Some(row) => row.name.as_str().as_bytes(),
-        None => &[],
-    }
-}
-
-pub fn kind_of(c: &Catalog, t: TypeNo) -> TypeKind
-    ensures { result ≡ kind_of c.now t }
-{
-    match type_row(c, t) {
-        Some(row) => row.kind,
-        None => TypeKind::Plain,
-    }
-}
-
-fn base_of(c: &Catalog, row: RowNo, t: TypeNo) -> TypeNo
-    ensures { result ≡ option_map_or (λ domain. domain.base) (slice_get c.now.domains row.0) t }
-{
-    if row.0 < c.counts().domains {
-        c.domain_row(row).base
-    } else {
-        t
-    }
+    c.type_row(ty).kind
 }
 
 /// The element of an array, or the base of a domain.
-fn inner(c: &Catalog, t: TypeNo) -> Option<TypeNo>
-    ensures { (onward : TypeNo → TypeNo) → leaf_by (kind_of c.now t) c.now t onward ≡ option_map_or onward result t }
+fn inner(c: &Catalog, ty: TypeNo) -> Option<TypeNo>
+    requires { ty.0 < length c.now.types }
+    ensures value { (onward : TypeNo → TypeNo) → leaf_by (kind_of c.now ty) c.now ty onward ≡ option_map_or onward result ty }
+    ensures within { IfSome result (λ next. next.0 < length c.now.types) }
 {
-    match kind_of(c, t) {
+    match kind_of(c, ty) {
         TypeKind::Array { element } => Some(element),
-        TypeKind::Domain { row } => Some(base_of(c, row, t)),
+        TypeKind::Domain { row } => Some(c.domain_row(row).base),
         TypeKind::Plain | TypeKind::Pseudo(_) | TypeKind::Range { .. } => None,
     }
 }
 
 /// The type at the end of elements and bases.
-fn leaf(c: &Catalog, t: TypeNo) -> TypeNo
-    ensures { result ≡ leaf c.now t }
+fn leaf(c: &Catalog, ty: TypeNo) -> TypeNo
+    requires { ty.0 < length c.now.types }
+    ensures value { result ≡ leaf c.now ty }
+    ensures within { result.0 < length c.now.types }
 {
-    let mut at = t;
-    for _step in 0..t.0 as u64 + 1 {
+    let mut at = ty;
+    for _step in 0..ty.0 as u64 + 1 {
         match inner(c, at) {
             Some(next) => at = next,
             None => return at,
@@ -71,10 +53,11 @@ fn leaf(c: &Catalog, t: TypeNo) -> TypeNo
 }
 
 /// Whether values of the type are texts as they stand.
-pub fn is_opaque(c: &Catalog, t: TypeNo) -> bool
-    ensures { result ≡ is_opaque c.now t }
+pub fn is_opaque(c: &Catalog, ty: TypeNo) -> bool
+    requires { ty.0 < length c.now.types }
+    ensures { result ≡ is_opaque c.now ty }
 {
-    let leaf = leaf(c, t);
+    let leaf = leaf(c, ty);
     match kind_of(c, leaf) {
         TypeKind::Range { .. } => false,
         _ => !is_plain(name_of(c, leaf)),

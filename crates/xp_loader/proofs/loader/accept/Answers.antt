@@ -9,7 +9,7 @@ pub add-requires-clause-keeps : goal.add-requires-clause-keeps
 add-requires-clause-keeps c =
     (IsKept-read c.args.c (built-first (c.args.line - 1) c.args.c c.requires.loaded.built) c.args.line (fields_of c.args.row.now) c.in-Ok.record c.in-Ok.ensures.0 c.in-Ok.ensures.1).0
 
-pub returns-in-Ok-add-clause-loaded : goal.returns-in-Ok-add-clause-loaded
-returns-in-Ok-add-clause-loaded c =
+pub returns-in-Ok-clause-loaded : goal.returns-in-Ok-clause-loaded
+returns-in-Ok-clause-loaded c =
     let kept = IsKept-read c.args.c (built-first (c.args.line - 1) c.args.c c.requires.loaded.built) c.args.line (fields_of c.args.row.now) c.in-Ok.record c.in-Ok.ensures.0 c.in-Ok.ensures.1 in
-    IsLoaded-added (c.args.line - 1) c.args.line c.args.c c.in-Ok-add.more c.in-Ok.record c.requires.loaded kept (omega arith) c.in-Ok-add.ensures
+    IsLoaded-added (c.args.line - 1) c.args.line c.args.c c.in_ok-add-in-Ok.field-0 c.in-Ok.record c.requires.loaded kept (omega arith) c.in_ok-add-in-Ok.ensures
