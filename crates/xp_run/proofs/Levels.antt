@@ -10,12 +10,12 @@ use Rattle.xp_grammar.specs.declared.ast.Ast.TheVariants.{rolls-Bool, rolls-Numb
 use Rattle.xp_grammar.specs.declared.ast.Ast.TheFolds.{fold-roll-Ast}
 use Rattle.xp_grammar.specs.declared.ast.Ast.TheOpen.{Ast-F}
 use Rattle.xp_run.specs.Resolve.{Resolution, level, resolved, operation, constant, int4_value}
-use Rattle.xp_run.specs.declared.value.Value.TheVariants.{Truth}
+use Rattle.xp_run.specs.declared.value.Value.TheVariants as values
 
 pub resolved_number : (c : Contents) (at : Span) (value : Dec) (whole : Bool) → resolved c (e.Number at value whole) ≡ option_map (constant c (codes "int4") at) (int4_value value whole)
 resolved_number c at value whole = ap (resolved c) (sym (rolls-Number at value whole)) ∙ fold-roll-Ast Resolution (Unit {0}) (level c) (λ arm. tt) (Ast-F.Number at value whole)
 
-pub resolved_truth : (c : Contents) (at : Span) (value : Bool) → resolved c (e.Bool at value) ≡ Some (constant c (codes "bool") at (Truth value))
+pub resolved_truth : (c : Contents) (at : Span) (value : Bool) → resolved c (e.Bool at value) ≡ Some (constant c (codes "bool") at (values.Bool value))
 resolved_truth c at value = ap (resolved c) (sym (rolls-Bool at value)) ∙ fold-roll-Ast Resolution (Unit {0}) (level c) (λ arm. tt) (Ast-F.Bool at value)
 
 pub resolved_column : (c : Contents) (at : Span) (name : List ℕ) → resolved c (e.Column at name) ≡ None

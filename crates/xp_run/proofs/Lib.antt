@@ -1,8 +1,10 @@
 pub mod Endings
+pub mod Expressions
+pub mod LastLines
 pub mod Levels
 pub mod Reading
 pub mod Reported
-pub mod Rows
 pub mod Steps
-pub mod WritesLater
+pub mod Texts
+pub mod Written
 pub mod Checks

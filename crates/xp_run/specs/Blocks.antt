@@ -1,5 +1,5 @@
--- The blocks of a report: a block is a list of lines, each with the newline that ends it.
-use Rattle.std.specs.Prelude.{ℕ, ◌+◌, List, [], ◌∷◌, ◌++◌, map, Bool, true, ◌&&◌, codes, slice_get, Option, Some, None, Result, Ok, Err}
+-- The block of a statement: its lines, whether the last says `ok`, and how many machine steps it took.
+use Rattle.std.specs.Prelude.{ℕ, ◌+◌, List, [], ◌∷◌, ◌++◌, map, Bool, codes, slice_get, Option, Some, None, Result, Ok, Err}
 use Rattle.std.specs.List.{concat}
 use Rattle.std.specs.Fmt.{decimal}
 use Rattle.std.specs.Option.{option_map_or}
@@ -10,29 +10,39 @@ use Rattle.xp_base.specs.declared.codes.Code.TheVariants as code
 use Rattle.xp_base.specs.declared.codes.EvalError.{EvalError}
 use Rattle.xp_base.specs.declared.numbers.TypeNo.{TypeNo}
 use Rattle.xp_catalog.specs.Contents.{Contents}
-use Rattle.xp_run.specs.Answer.{first_early, row_of, is_ok_answer}
-use Rattle.xp_run.specs.Script.{answers}
+use Rattle.xp_run.specs.Answer.{Answer, Refused, Described, Explained, Evaluated, is_fine, steps_of}
 use Rattle.xp_run.specs.Values.{text_of_value}
-use Rattle.xp_run.specs.declared.answer.Answer.{Answer}
-use Rattle.xp_run.specs.declared.answer.Answer.TheVariants.{Refused, Resolved}
 use Rattle.xp_run.specs.declared.resolve.Refusal.{Refusal}
-use Rattle.xp_run.specs.declared.resolve.Typed.{Typed}
 use Rattle.xp_run.specs.declared.value.Value.{Value}
+
+pub record Block : Type 0 where
+  -- each with the newline that ends it
+  pub lines : List (List ℕ)
+  pub ends_in_ok : Bool
+  pub steps : ℕ
+
+-- ---- lines
 
 -- a line of the block of statement k: its number, and the parts behind it
 abbrev pub numbered : ℕ → List (List ℕ) → List ℕ
 numbered k parts = codes "-- " ++ decimal k ++ concat parts
 
 abbrev pub type_name : Contents → TypeNo → List ℕ
-type_name c t = option_map_or (λ row. row.name) (slice_get c.types t.0) []
+type_name c ty = option_map_or (λ row. row.name) (slice_get c.types ty.0) []
 
 -- the names of the types, with a comma before each but the first
-abbrev pub type_names : Contents → List Typed → List ℕ
+abbrev pub type_names : Contents → List TypeNo → List ℕ
 type_names c [] = []
-type_names c (typed ∷ others) = type_name c typed.ty ++ concat (map (λ other. codes "," ++ type_name c other.ty) others)
+type_names c (ty ∷ others) = type_name c ty ++ concat (map (λ other. codes "," ++ type_name c other) others)
 
 abbrev pub types_line : ℕ → List ℕ → List ℕ
 types_line k names = numbered k (codes " types " ∷ names ∷ codes "\n" ∷ [])
+
+abbrev pub uses_line : ℕ → List ℕ → List ℕ
+uses_line k choice = numbered k (codes " uses " ∷ choice ∷ codes "\n" ∷ [])
+
+abbrev pub step_line : ℕ → List ℕ → List ℕ
+step_line k step = numbered k (codes " step " ∷ step ∷ codes "\n" ∷ [])
 
 -- a row, as the default writer of csv writes it
 abbrev pub row_line : List Value → List ℕ
@@ -41,54 +51,35 @@ row_line values = row_text default_writer (map text_of_value values)
 abbrev pub ok_line : ℕ → ℕ → List ℕ
 ok_line k rows = numbered k (codes " ok " ∷ decimal rows ∷ codes "\n" ∷ [])
 
--- an error that is raised early, and one of the row
+-- an error that is raised early, and one of a row
 abbrev pub early_line : ℕ → Code → List ℕ
 early_line k c = numbered k (codes " error " ∷ state_of c ∷ codes " " ∷ word_of c ∷ codes " early\n" ∷ [])
 
-abbrev pub error_line : ℕ → Code → List ℕ
-error_line k c = numbered k (codes " error " ∷ state_of c ∷ codes " " ∷ word_of c ∷ codes " row 1\n" ∷ [])
+abbrev pub error_line : ℕ → Code → ℕ → List ℕ
+error_line k c row = numbered k (codes " error " ∷ state_of c ∷ codes " " ∷ word_of c ∷ codes " row " ∷ decimal row ∷ codes "\n" ∷ [])
 
 abbrev pub refused_line : ℕ → Refusal → List ℕ
 refused_line k refusal = numbered k (codes " refused " ∷ state_of refusal.code ∷ codes " " ∷ word_of refusal.code ∷ codes " byte " ∷ decimal refusal.at ∷ codes "\n" ∷ [])
 
--- the lines behind that of the types
-abbrev pub outcome_lines : ℕ → Option EvalError → Result (List Value) EvalError → List (List ℕ)
-outcome_lines k (Some error) row = early_line k (code.Raised error) ∷ []
-outcome_lines k None (Ok values) = row_line values ∷ ok_line k 1 ∷ []
-outcome_lines k None (Err error) = error_line k (code.Raised error) ∷ []
+-- ---- blocks
 
--- the lines of the block of statement k
+-- the rows behind so many, and the last line
+abbrev pub row_lines : ℕ → ℕ → List (Result (List Value) EvalError) → List (List ℕ)
+row_lines k before [] = ok_line k before ∷ []
+row_lines k before (Ok values ∷ rows) = row_line values ∷ row_lines k (before + 1) rows
+row_lines k before (Err error ∷ rows) = error_line k (code.Raised error) (before + 1) ∷ []
+
+-- the lines behind that of the types
+abbrev pub outcome_lines : ℕ → Option EvalError → List (Result (List Value) EvalError) → List (List ℕ)
+outcome_lines k (Some error) rows = early_line k (code.Raised error) ∷ []
+outcome_lines k None rows = row_lines k 0 rows
+
 abbrev pub lines_of : Contents → ℕ → Answer → List (List ℕ)
 lines_of c k (Refused refusal) = refused_line k refusal ∷ []
-lines_of c k (Resolved typed) = types_line k (type_names c typed) ∷ outcome_lines k (first_early typed) (row_of typed)
+lines_of c k (Described types choices) = types_line k (type_names c types) ∷ (map (uses_line k) choices ++ ok_line k 0 ∷ [])
+lines_of c k (Explained types steps) = types_line k (type_names c types) ∷ (map (step_line k) steps ++ ok_line k 0 ∷ [])
+lines_of c k (Evaluated types rows) = types_line k (type_names c types) ∷ outcome_lines k rows.early rows.rows
 
--- the bytes of the block of statement k
-abbrev pub block_of : Contents → ℕ → Answer → List ℕ
-block_of c k answer = concat (lines_of c k answer)
-
--- the blocks of statements that answer so, numbered from k
-abbrev pub blocks_from : Contents → ℕ → List Answer → List ℕ
-blocks_from c k [] = []
-blocks_from c k (answer ∷ later) = block_of c k answer ++ blocks_from c (k + 1) later
-
--- what is written of an answer, if there is one, the number of the next statement, and whether the block ends in `ok`
-abbrev pub text_of : Contents → ℕ → Option Answer → List ℕ
-text_of c k None = []
-text_of c k (Some answer) = block_of c k answer
-
-abbrev pub number_after : ℕ → Option Answer → ℕ
-number_after k None = k
-number_after k (Some answer) = k + 1
-
-abbrev pub is_fine : Option Answer → Bool
-is_fine None = true
-is_fine (Some answer) = is_ok_answer answer
-
--- every block's last line says `ok`
-abbrev pub all_ok : List Answer → Bool
-all_ok [] = true
-all_ok (answer ∷ later) = is_ok_answer answer && all_ok later
-
--- the report on a script over a catalogue
-abbrev pub report : Contents → List ℕ → List ℕ
-report c script = blocks_from c 1 (answers c script)
+-- the block of statement k
+abbrev pub block_of : Contents → ℕ → Answer → Block
+block_of c k answer = record { lines = lines_of c k answer; ends_in_ok = is_fine answer; steps = steps_of answer }

@@ -8,7 +8,7 @@ use Rattle.xp_base.specs.declared.numbers.BodyNo.{BodyNo}
 use Rattle.xp_bodies.specs.Table.{bodies}
 use Rattle.xp_int.specs.Integers.{difference, int4, product, quotient, remainder, sum}
 use Rattle.xp_run.specs.declared.value.Value.{Value}
-use Rattle.xp_run.specs.declared.value.Value.TheVariants.{Int, Truth}
+use Rattle.xp_run.specs.declared.value.Value.TheVariants as values
 use Rattle.xp_run.specs.declared.integers.Operation.{Operation}
 use Rattle.xp_run.specs.declared.integers.Operation.TheVariants.{Add, Subtract, Multiply, Divide, Modulo, Equal, Less, Greater}
 
@@ -30,7 +30,7 @@ operation_at body = option_and_then (λ row. operation_named row.name) (slice_ge
 
 -- a number or an error as a value or an error
 abbrev pub number_of : Result ℤ EvalError → Result Value EvalError
-number_of (Ok z) = Ok (Int z)
+number_of (Ok z) = Ok (values.Int z)
 number_of (Err error) = Err error
 
 -- the arithmetic of int4, and the order of whole numbers
@@ -40,6 +40,6 @@ outcome_of Subtract a b = number_of (difference int4 a b)
 outcome_of Multiply a b = number_of (product int4 a b)
 outcome_of Divide a b = number_of (quotient int4 a b)
 outcome_of Modulo a b = number_of (remainder a b)
-outcome_of Equal a b = Ok (Truth (is_eq (int_cmp a b)))
-outcome_of Less a b = Ok (Truth (is_lt (int_cmp a b)))
-outcome_of Greater a b = Ok (Truth (is_gt (int_cmp a b)))
+outcome_of Equal a b = Ok (values.Bool (is_eq (int_cmp a b)))
+outcome_of Less a b = Ok (values.Bool (is_lt (int_cmp a b)))
+outcome_of Greater a b = Ok (values.Bool (is_gt (int_cmp a b)))

@@ -11,12 +11,16 @@ use Rattle.xp_token.specs.Lexemes.{Placed}
 use Rattle.xp_parser.specs.declared.fault.ParseFault.{ParseFault}
 use Rattle.xp_parser.specs.declared.fault.ParseFault.TheVariants as fault
 use Rattle.xp_parser.specs.Parses.{parsed}
-use Rattle.xp_run.specs.Answer.{refused, answer_of}
-use Rattle.xp_run.specs.declared.answer.Answer.{Answer}
+use Rattle.xp_base.specs.declared.codes.Code.{Code}
+use Rattle.xp_run.specs.Analysis.{analysed}
+use Rattle.xp_run.specs.Answer.{Answer, Refused, answer_of}
+
+abbrev pub refused : Code → ℕ → Answer
+refused c at = Refused (record { code = c; at = at })
 
 -- by what the tokens are, which are never out of memory here
 abbrev pub parsed_answer : Contents → Result Statement ParseFault → Option Answer
-parsed_answer c (Ok statement) = Some (answer_of c statement)
+parsed_answer c (Ok statement) = Some (answer_of (analysed c statement))
 parsed_answer c (Err (fault.Syntax at)) = Some (refused code.Syntax at)
 parsed_answer c (Err (fault.TooDeep at)) = Some (refused code.TooDeep at)
 parsed_answer c (Err fault.Memory) = None

@@ -1,7 +1,9 @@
 //! Loads the texts of a run.
 ghost use Rattle.std.specs.Prelude.{◌≡◌, ◌≤◌, IfOk, length};
 ghost use Rattle.xp_base.specs.Growth.{Rose};
-ghost use Rattle.xp_run.specs.Inputs.{Reads, catalog_in, first_check, inputs_in, text_in, unless_check};
+ghost use Rattle.xp_base.specs.Outside.{text_at};
+ghost use Rattle.xp_run.specs.Inputs.{catalog_of, first_check, inputs_in, unless_check, within};
+ghost use Rattle.xp_run.specs.inner.Reading.{Reads, ReadsText, ReadsTexts};
 
 use crate::ending::Ending;
 use std::alloc::Global;
@@ -16,8 +18,10 @@ pub struct Inputs {
     pub script: Byts,
 }
 
+#[tactic(auto, using(crate::proofs::Texts::reads_whole, crate::proofs::Texts::reads_long, crate::proofs::Texts::reads_failed, crate::proofs::Texts::reads_memory))]
 fn load_text<F: Shelf>(alloc: Global, name: &str, limit: u64, shelf: &mut F) -> Result<Byts, Ending>
-    ensures answer { Reads (F.held shelf.old) (λ files. text_in files name.now limit) (Rose (F.faults shelf.old) (F.faults shelf.new)) result }
+    ensures answer { Reads (F.held shelf.old) (λ files. within limit (text_at files name.now)) (Rose (F.faults shelf.old) (F.faults shelf.new)) result }
+    ensures text { ReadsText (F.held shelf.old) name.now (within limit) result }
     ensures short { IfOk result (λ text. length text ≤ limit) }
     ensures same { F.held shelf.new ≡ F.held shelf.old }
     ensures rises { F.faults shelf.old ≤ F.faults shelf.new }
@@ -56,8 +60,10 @@ fn unless_check(catalog: Catalog) -> Result<Catalog, Ending>
     }
 }
 
+#[tactic(auto, using(crate::proofs::Texts::text_stops, crate::proofs::Texts::text_then, crate::proofs::Texts::reads_memory))]
 fn load_catalog<F: Shelf>(alloc: Global, name: &str, shelf: &mut F) -> Result<Catalog, Ending>
-    ensures answer { Reads (F.held shelf.old) (λ files. catalog_in files name.now) (Rose (F.faults shelf.old) (F.faults shelf.new)) result }
+    ensures answer { Reads (F.held shelf.old) (λ files. catalog_of (text_at files name.now)) (Rose (F.faults shelf.old) (F.faults shelf.new)) result }
+    ensures text { ReadsText (F.held shelf.old) name.now catalog_of result }
     ensures same { F.held shelf.new ≡ F.held shelf.old }
     ensures rises { F.faults shelf.old ≤ F.faults shelf.new }
 {
@@ -77,6 +83,7 @@ fn load_catalog<F: Shelf>(alloc: Global, name: &str, shelf: &mut F) -> Result<Ca
 }
 
 /// Loads the catalogue, and then the script.
+#[tactic(auto, using(crate::proofs::Texts::texts_stop, crate::proofs::Texts::texts_script, crate::proofs::Texts::texts_whole))]
 pub fn load_inputs<F: Shelf>(
     alloc: Global,
     catalog: &str,
@@ -84,6 +91,7 @@ pub fn load_inputs<F: Shelf>(
     shelf: &mut F,
 ) -> Result<Inputs, Ending>
     ensures answer { Reads (F.held shelf.old) (λ files. inputs_in files (record { catalog = catalog.now; script = script.now })) (Rose (F.faults shelf.old) (F.faults shelf.new)) result }
+    ensures texts { ReadsTexts (F.held shelf.old) (record { catalog = catalog.now; script = script.now }) result }
     ensures short { IfOk result (λ inputs. length inputs.script ≤ SCRIPT_LIMIT) }
     ensures same { F.held shelf.new ≡ F.held shelf.old }
     ensures rises { F.faults shelf.old ≤ F.faults shelf.new }

@@ -65,8 +65,8 @@ pub fn apply(operation: Operation, a: i32, b: i32) -> Result<Value, EvalError>
         Operation::Multiply => number(mul_int4(a, b)),
         Operation::Divide => number(div_int4(a, b)),
         Operation::Modulo => number(mod_int4(a, b)),
-        Operation::Equal => Ok(Value::Truth(eq_int(i64::from(a), i64::from(b)))),
-        Operation::Less => Ok(Value::Truth(lt_int(i64::from(a), i64::from(b)))),
-        Operation::Greater => Ok(Value::Truth(gt_int(i64::from(a), i64::from(b)))),
+        Operation::Equal => Ok(Value::Bool(eq_int(i64::from(a), i64::from(b)))),
+        Operation::Less => Ok(Value::Bool(lt_int(i64::from(a), i64::from(b)))),
+        Operation::Greater => Ok(Value::Bool(gt_int(i64::from(a), i64::from(b)))),
     }
 }

@@ -1,83 +1,91 @@
 //! The lines of a block, each with the newline that ends it.
-ghost use Rattle.std.specs.Prelude.{◌≡◌, ◌∷◌, [], IfOk, map};
+ghost use Rattle.std.specs.Prelude.{◌≡◌, IfOk, map, string_bytes};
 ghost use Rattle.csv.specs.Writing.{default_writer, row_text};
 ghost use Rattle.csv.specs.Records.{fields_of};
 ghost use Rattle.xp_run.specs.Values.{text_of_value};
-ghost use Rattle.xp_run.specs.Blocks.{early_line, error_line, numbered, ok_line, refused_line, row_line, types_line};
+ghost use Rattle.xp_run.specs.Blocks.{early_line, error_line, ok_line, refused_line, row_line, type_name, type_names, types_line};
 
+use crate::analysis::Evaluable;
 use crate::resolve::Refusal;
 use crate::value::{Value, value_text};
 use csv::{ByteRecord, Error, WriterBuilder};
 use std::alloc::{AllocError, Global};
-use xp_base::Code;
+use xp_base::{Code, TypeNo};
+use xp_catalog::Catalog;
 
-/// `-- K`, and the parts behind it.
-fn numbered(alloc: Global, k: u64, parts: &[&str]) -> Result<Vec<u8>, AllocError>
-    ensures { IfOk result (λ line. line.items ≡ numbered k (map (λ part. part.now) parts.now)) }
+/// The name of a type; a number that is no type's has none.
+fn name_of(catalog: &Catalog, ty: TypeNo) -> &str
+    ensures { result.now ≡ type_name catalog.now ty }
 {
-    let mut line = format!(in alloc; "-- {k}")?;
-    for part in parts {
-        line.push_str(part)?;
+    if ty.0 < catalog.counts().types {
+        catalog.type_row(ty).name.as_str()
+    } else {
+        ""
     }
-    Ok(line.into_bytes())
+}
+
+/// The names of the types, with commas between.
+fn names_of(
+    alloc: Global,
+    catalog: &Catalog,
+    expressions: &[Evaluable],
+) -> Result<String, AllocError>
+    ensures { IfOk result (λ names. string_bytes names ≡ type_names catalog.now (map (λ one. one.ty) expressions.now)) }
+{
+    let [first, others @ ..] = expressions else {
+        return Ok(String::new(alloc));
+    };
+    let mut names = String::from_str(alloc, name_of(catalog, first.ty))?;
+    for other in others {
+        names.push_str(",")?;
+        names.push_str(name_of(catalog, other.ty))?;
+    }
+    Ok(names)
 }
 
 /// `-- K types T,T`
-pub fn types(alloc: Global, k: u64, names: &str) -> Result<Vec<u8>, AllocError>
-    ensures { IfOk result (λ line. line.items ≡ types_line k names.now) }
+pub fn types(
+    alloc: Global,
+    catalog: &Catalog,
+    k: u64,
+    expressions: &[Evaluable],
+) -> Result<String, AllocError>
+    ensures { IfOk result (λ line. string_bytes line ≡ types_line k (type_names catalog.now (map (λ one. one.ty) expressions.now))) }
 {
-    numbered(alloc, k, &[" types ", names, "\n"])
+    let names = names_of(alloc, catalog, expressions)?;
+    format!(in alloc; "-- {k} types {names}\n")
 }
 
 /// `-- K ok ROWS`
-pub fn ok(alloc: Global, k: u64, rows: u32) -> Result<Vec<u8>, AllocError>
-    ensures { IfOk result (λ line. line.items ≡ ok_line k rows) }
+pub fn ok(alloc: Global, k: u64, rows: u32) -> Result<String, AllocError>
+    ensures { IfOk result (λ line. string_bytes line ≡ ok_line k rows) }
 {
-    let rows = format!(in alloc; "{rows}")?;
-    numbered(alloc, k, &[" ok ", rows.as_str(), "\n"])
+    format!(in alloc; "-- {k} ok {rows}\n")
 }
 
 /// `-- K error CODE early`
-pub fn early(alloc: Global, k: u64, code: Code) -> Result<Vec<u8>, AllocError>
-    ensures { IfOk result (λ line. line.items ≡ early_line k code) }
+pub fn early(alloc: Global, k: u64, code: Code) -> Result<String, AllocError>
+    ensures { IfOk result (λ line. string_bytes line ≡ early_line k code) }
 {
-    numbered(
-        alloc,
-        k,
-        &[" error ", code.state(), " ", code.word(), " early\n"],
-    )
+    let (state, word) = (code.state(), code.word());
+    format!(in alloc; "-- {k} error {state} {word} early\n")
 }
 
-/// `-- K error CODE row 1`
-pub fn error(alloc: Global, k: u64, code: Code) -> Result<Vec<u8>, AllocError>
-    ensures { IfOk result (λ line. line.items ≡ error_line k code) }
+/// `-- K error CODE row R`
+pub fn error(alloc: Global, k: u64, code: Code, row: u32) -> Result<String, AllocError>
+    ensures { IfOk result (λ line. string_bytes line ≡ error_line k code row) }
 {
-    numbered(
-        alloc,
-        k,
-        &[" error ", code.state(), " ", code.word(), " row 1\n"],
-    )
+    let (state, word) = (code.state(), code.word());
+    format!(in alloc; "-- {k} error {state} {word} row {row}\n")
 }
 
 /// `-- K refused CODE byte B`
-pub fn refused(alloc: Global, k: u64, refusal: Refusal) -> Result<Vec<u8>, AllocError>
-    ensures { IfOk result (λ line. line.items ≡ refused_line k refusal) }
+pub fn refused(alloc: Global, k: u64, refusal: Refusal) -> Result<String, AllocError>
+    ensures { IfOk result (λ line. string_bytes line ≡ refused_line k refusal) }
 {
     let Refusal { code, at } = refusal;
-    let at = format!(in alloc; "{at}")?;
-    numbered(
-        alloc,
-        k,
-        &[
-            " refused ",
-            code.state(),
-            " ",
-            code.word(),
-            " byte ",
-            at.as_str(),
-            "\n",
-        ],
-    )
+    let (state, word) = (code.state(), code.word());
+    format!(in alloc; "-- {k} refused {state} {word} byte {at}\n")
 }
 
 /// The record of the texts of these values.

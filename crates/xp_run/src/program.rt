@@ -2,12 +2,14 @@
 ghost use Rattle.std.specs.Prelude.{◌≡◌, ◌≤◌, Some};
 ghost use Rattle.xp_base.specs.Growth.{Rose};
 ghost use Rattle.xp_run.specs.Inputs.{named};
-ghost use Rattle.xp_run.specs.Run.{HasCause, IsDoneOrMemory, IsReady, Reports};
+ghost use Rattle.xp_run.specs.Causes.{HasCause, IsDoneOrMemory, IsReady};
+ghost use Rattle.xp_run.specs.Run.{Reports};
 
 use crate::ending::{Ending, Exit, exit_of};
 use crate::inputs::load_inputs;
-use crate::report::{Stop, write_report};
+use crate::report::write_report;
 use crate::words::text_names;
+use crate::writing::WriteError;
 use std::alloc::Global;
 use xp_base::{Shelf, Sink, Txt};
 
@@ -20,6 +22,7 @@ fn run_named<F: Shelf, K: Sink>(
 ) -> Exit
     ensures report { Reports (F.held shelf.old) (Some (record { catalog = catalog.now; script = script.now })) (K.contents out.old) (K.contents out.new) result }
     ensures cause { HasCause (F.held shelf.old) (Some (record { catalog = catalog.now; script = script.now })) (Rose (F.faults shelf.old) (F.faults shelf.new)) (Rose (K.faults out.old) (K.faults out.new)) result.end }
+    ensures memory { result.end ≡ Ending.Memory → K.faults out.new ≡ K.faults out.old }
     ensures shelf { F.faults shelf.old ≤ F.faults shelf.new }
     ensures sink { K.faults out.old ≤ K.faults out.new }
     ensures same { F.held shelf.new ≡ F.held shelf.old }
@@ -30,8 +33,8 @@ fn run_named<F: Shelf, K: Sink>(
     };
     match write_report(alloc, &inputs.catalog, inputs.script.as_slice(), out) {
         Ok(fine) => exit_of(Ending::Done { steps: 0 }, fine),
-        Err(Stop::Write) => exit_of(Ending::WriteFault, true),
-        Err(Stop::Memory) => exit_of(Ending::Memory, true),
+        Err(WriteError::Failed) => exit_of(Ending::WriteFault, true),
+        Err(WriteError::Memory) => exit_of(Ending::Memory, true),
     }
 }
 
@@ -47,6 +50,9 @@ pub fn run<F: Shelf, K: Sink>(alloc: Global, words: &[Txt], shelf: &mut F, out: 
     // Texts that are in order are answered to the end, unless a count rises.
     ensures complete { IsReady (F.held shelf.old) (named words.now)
         → ¬ Rose (F.faults shelf.old) (F.faults shelf.new) → ¬ Rose (K.faults out.old) (K.faults out.new) → IsDoneOrMemory result.end }
+
+    // Where memory ran out, no put failed: the sink's count stands where it was.
+    ensures memory { result.end ≡ Ending.Memory → K.faults out.new ≡ K.faults out.old }
 
     ensures shelf { F.faults shelf.old ≤ F.faults shelf.new }
     ensures sink { K.faults out.old ≤ K.faults out.new }

@@ -26,7 +26,7 @@ pub struct Typed {
 
 /// A chosen operator: the type of its function's result, and the function.
 #[derive(Clone, Copy, Debug, PartialEq, Eq)]
-pub struct Called {
+pub struct ResolvedOperator {
     pub ty: TypeNo,
     pub function: Function,
 }
@@ -73,24 +73,24 @@ fn function_of(row: &FuncRow) -> Function
 }
 
 /// The operator of that name whose operands are of exactly these types (manual 10.2, step 2).
-fn call_operator(catalog: &Catalog, name: &str, operands: &[TypeNo]) -> Option<Called>
-    ensures { result ≡ spec.called catalog.now name.now operands.now }
+fn resolve_operator(catalog: &Catalog, name: &str, operands: &[TypeNo]) -> Option<ResolvedOperator>
+    ensures { result ≡ spec.resolved_operator catalog.now name.now operands.now }
 {
     let operator = catalog.oper_row(catalog.oper_at(name, operands)?);
     let function = catalog.func_row(operator.function);
-    Some(Called {
+    Some(ResolvedOperator {
         ty: function.result,
         function: function_of(function),
     })
 }
 
-fn call(called: Called, left: Typed, right: Typed) -> Typed
-    ensures { result ≡ spec.call_of called left right }
+fn call(operator: ResolvedOperator, left: Typed, right: Typed) -> Typed
+    ensures { result ≡ spec.call_of operator left right }
 {
     Typed {
-        ty: called.ty,
+        ty: operator.ty,
         start: left.start,
-        evaluation: call_evaluation(called.function, left.evaluation, right.evaluation),
+        evaluation: call_evaluation(operator.function, left.evaluation, right.evaluation),
     }
 }
 
@@ -106,8 +106,8 @@ fn operate(
 {
     let left = left?;
     let right = right?;
-    match call_operator(catalog, name, &[left.ty, right.ty]) {
-        Some(called) => Ok(call(called, left, right)),
+    match resolve_operator(catalog, name, &[left.ty, right.ty]) {
+        Some(operator) => Ok(call(operator, left, right)),
         None => Err(Refusal {
             code: Code::Undefined,
             at: u64::from(at.start),
@@ -116,8 +116,8 @@ fn operate(
 }
 
 /// An expression in parentheses, which begins where they stand.
-fn in_group(at: Span, inner: Result<Typed, Refusal>) -> Result<Typed, Refusal>
-    ensures { result ≡ spec.in_group at inner }
+fn in_parentheses(at: Span, inner: Result<Typed, Refusal>) -> Result<Typed, Refusal>
+    ensures { result ≡ spec.in_parentheses at inner }
 {
     let typed = inner?;
     Ok(Typed {
@@ -143,8 +143,8 @@ pub fn resolve(catalog: &Catalog, ast: &Ast) -> Option<Result<Typed, Refusal>>
             let value = int4_value(*value, *whole)?;
             Some(constant(catalog, "int4", *at, value))
         }
-        Ast::Bool { at, value } => Some(constant(catalog, "bool", *at, Value::Truth(*value))),
-        Ast::Paren { at, inner } => Some(in_group(*at, resolve(catalog, inner.get())?)),
+        Ast::Bool { at, value } => Some(constant(catalog, "bool", *at, Value::Bool(*value))),
+        Ast::Paren { at, inner } => Some(in_parentheses(*at, resolve(catalog, inner.get())?)),
         Ast::Product {
             at,
             name,

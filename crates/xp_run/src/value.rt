@@ -8,7 +8,7 @@ use std::alloc::{AllocError, Global};
 #[derive(Clone, Copy, Debug, PartialEq, Eq)]
 pub enum Value {
     Int(i32),
-    Truth(bool),
+    Bool(bool),
 }
 
 /// The value as a row shows it (manual 8.1.1, 8.6).
@@ -17,7 +17,7 @@ pub fn value_text(alloc: Global, value: Value) -> Result<String, AllocError>
 {
     match value {
         Value::Int(number) => format!(in alloc; "{number}"),
-        Value::Truth(true) => String::from_str(alloc, "t"),
-        Value::Truth(false) => String::from_str(alloc, "f"),
+        Value::Bool(true) => String::from_str(alloc, "t"),
+        Value::Bool(false) => String::from_str(alloc, "f"),
     }
 }

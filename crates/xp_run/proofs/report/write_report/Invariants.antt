@@ -1,7 +1,7 @@
 use Rattle.std.proofs.Common.{◌≡◌, ℕ, ◌+◌, ◌-◌, ◌≤◌, ◌&&◌, length}
 use Rattle.xp_base.proofs.Progress.{Progress}
-use Rattle.xp_run.specs.Blocks.{all_ok, blocks_from, report}
-use Rattle.xp_run.specs.Script.{answers, answers_from}
+use Rattle.xp_run.specs.Report.{all_ok, blocks_from, report, steps_in, text_of}
+use Rattle.xp_run.specs.Script.{answers_from}
 use Rattle.xp_run.proofs.report.write_report.Given as goal
 
 -- the blocks of the statements so far are written, and those of the rest are left, of which there are at most `n`
@@ -9,11 +9,12 @@ abbrev pub invariant-loop-at : goal.invariant-loop-at
 invariant-loop-at g l = record {
   n : ℕ;
   enough : length l.script ≤ l.at + n;
-  wrote : Progress (g.K.Sink.contents l.initial.out) (g.K.Sink.contents l.out) (blocks_from l.catalog l.tally.next (answers_from n l.catalog l.script l.at)) (report l.catalog l.script);
-  fine : (l.tally.all_ok && all_ok (answers_from n l.catalog l.script l.at)) ≡ all_ok (answers l.catalog l.script);
+  wrote : Progress (g.K.Sink.contents l.initial.out) (g.K.Sink.contents l.out) (text_of (blocks_from l.catalog l.tally.next (answers_from n l.catalog l.script l.at))) (text_of (report l.catalog l.script));
+  fine : (l.tally.all_ok && all_ok (blocks_from l.catalog l.tally.next (answers_from n l.catalog l.script l.at))) ≡ all_ok (report l.catalog l.script);
+  steps : steps_in (blocks_from l.catalog l.tally.next (answers_from n l.catalog l.script l.at)) ≡ steps_in (report l.catalog l.script);
   within : l.at ≤ length l.script;
   few : l.tally.next ≤ l.at + 1;
-  rises : g.K.Sink.faults l.initial.out ≤ g.K.Sink.faults l.out;
+  same : g.K.Sink.faults l.out ≡ g.K.Sink.faults l.initial.out;
 }
 
 abbrev pub decreases-loop-at : goal.decreases-loop-at
