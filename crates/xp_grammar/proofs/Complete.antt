@@ -6,7 +6,7 @@ use Rattle.xp_grammar.specs.declared.kind.Kind.{Kind}
 use Rattle.xp_grammar.specs.Kinds.{kind, has, ahead}
 use Rattle.xp_grammar.specs.Table.{Level, Sym, Tok, Lev, Value, Word, Start, Tail, level, parts, on, lead, rest, turn, is_open, fits, made, joined}
 use Rattle.xp_grammar.specs.Grammar.{Derives}
-use Rattle.xp_grammar.specs.Machine.{Outcome, and_then, pure, expect, Node, Edges, node, stop, edge, trie, tails, opens, any_opens, symbol, finish, walk, choose, used, onward, one, run, rank}
+use Rattle.xp_grammar.specs.inner.Machine.{Outcome, and_then, pure, expect, Node, Edges, node, stop, edge, trie, tails, opens, any_opens, symbol, finish, walk, choose, used, onward, one, run, rank}
 use Rattle.xp_grammar.proofs.Look.{inner, goes, goes_one, goes_all, clear, height, head, head_small, Path, PathE, apart, apart_edges, start_quiet, start_clear, start_head, clear_at, clear_rest, goes_inner, goes_tail, path_opens, apart_here, apart_below, apart_more, apart_edges_of, done_quiet, trie_path, tail_path, trie_apart, tails_apart, tail_quiet, tail_clear, tail_lead, tail_opens, lead_clear, lead_goes, first_of_line, some_part}
 use Rattle.xp_grammar.proofs.Sound.{used_is}
 

@@ -3,7 +3,7 @@ use Rattle.std.proofs.Common.{◌≡◌, ℕ, suc, ◌+◌, ◌*◌, ◌≤◌, 
 use Rattle.xp_token.specs.declared.token.Token.{Token}
 use Rattle.xp_grammar.specs.Kinds.{ahead}
 use Rattle.xp_grammar.specs.Table.{Level, Value}
-use Rattle.xp_grammar.specs.Machine.{Outcome, run, rank, parse}
+use Rattle.xp_grammar.specs.inner.Machine.{Outcome, run, rank, parse}
 use Rattle.xp_grammar.specs.Reads.{IsStatement, Stuck, Fault, to_end, read}
 use Rattle.xp_grammar.proofs.Sound.{Fine, Whole, Begun, run_sound, begun_by}
 use Rattle.xp_grammar.proofs.Look.{inner, goes}

@@ -5,7 +5,7 @@ use Rattle.xp_grammar.specs.declared.kind.Kind.{Kind}
 use Rattle.xp_grammar.specs.declared.kind.Class.{Class}
 use Rattle.xp_grammar.specs.Kinds.{kind, has, ahead}
 use Rattle.xp_grammar.specs.Table.{Level, Sym, Tok, Lev, Value, Word, Start, is_open, made, joined}
-use Rattle.xp_grammar.specs.Machine.{Outcome, Parser, and_then, pure, expect, Node, Edges, node, stop, edge, trie, tails, first, opens, any_opens, symbol, finish, walk, choose, used, onward, one, run, rank, parse}
+use Rattle.xp_grammar.specs.inner.Machine.{Outcome, Parser, and_then, pure, expect, Node, Edges, node, stop, edge, trie, tails, first, opens, any_opens, symbol, finish, walk, choose, used, onward, one, run, rank, parse}
 use Rattle.xp_grammar.proofs.Look.{height, head_small}
 use Rattle.xp_grammar.proofs.Bits.{implies, implied_false, every, every_at}
 use Rattle.xp_grammar.proofs.Complete.{led_alone, choose_none}

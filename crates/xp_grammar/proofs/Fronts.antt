@@ -6,7 +6,7 @@ use Rattle.xp_grammar.specs.Kinds.{kind, has, ahead}
 use Rattle.xp_grammar.specs.Table.{Level, Sym, Tok, Lev, Value, Word, Start, Tail, level, parts, on, lead, rest, turn, is_open, fits, made, joined}
 use Rattle.xp_grammar.specs.Grammar.{Derives}
 use Rattle.xp_grammar.proofs.Front.{Front}
-use Rattle.xp_grammar.specs.Machine.{Outcome, Parser, and_then, pure, expect, Node, Edges, node, stop, edge, trie, tails, opens, any_opens, symbol, finish, walk, choose, used, onward, run, rank}
+use Rattle.xp_grammar.specs.inner.Machine.{Outcome, Parser, and_then, pure, expect, Node, Edges, node, stop, edge, trie, tails, opens, any_opens, symbol, finish, walk, choose, used, onward, run, rank}
 use Rattle.xp_grammar.proofs.Sound.{Fine, Whole, Begun, run_sound, symbol_sound}
 use Rattle.xp_grammar.proofs.Look.{inner, goes_one, clear, height, head, head_small, Path, PathE, apart, apart_edges, start_clear, start_head, clear_at, clear_rest, path_opens, apart_here, apart_below, apart_more, apart_edges_of, trie_path, tail_path, trie_apart, tails_apart, tail_clear, lead_clear, first_of_line}
 use Rattle.xp_grammar.proofs.Complete.{Leads, Leads1, Shows, means, start_leads, tail_leads, led_alone, led_one, symbol_read, if_true, turned, shown, shown_more}

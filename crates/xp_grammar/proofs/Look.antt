@@ -11,7 +11,7 @@ use Rattle.xp_grammar.specs.Table.{Level, Sym, Tok, Lev, Start, Tail, level, par
 use Rattle.xp_grammar.specs.Table.{Level as l}
 use Rattle.xp_grammar.specs.Table.{Start as s}
 use Rattle.xp_grammar.specs.Table.{Tail as c}
-use Rattle.xp_grammar.specs.Machine.{Node, Edges, node, stop, edge, trie, tails, first, opens, any_opens, rank}
+use Rattle.xp_grammar.specs.inner.Machine.{Node, Edges, node, stop, edge, trie, tails, first, opens, any_opens, rank}
 use Rattle.xp_grammar.proofs.Bits.{implies, implied, implied_false, every, every_at}
 
 abbrev inner_list : Level → List Kind
@@ -504,9 +504,6 @@ start_head x = at_most (head (parts x)) (rank (level x)) (and_parts _ _ (start_e
 
 not_both : (a b : Bool) → not (a && b) ≡ true → b ≡ true → a ≡ false
 not_both a b e h = grind arith
-
-not_both' : (a b : Bool) → not (a && b) ≡ true → a ≡ true → b ≡ false
-not_both' a b e h = grind arith
 
 pub clear_at : (x y : Sym) (ss : List Sym) (a : Kind) → clear (x ∷ y ∷ ss) ≡ true → opens y a ≡ true → goes_one x a ≡ false
 clear_at x y ss a e h = not_both (goes_one x a) (opens y a) (every_at (λ b. not (goes_one x b && opens y b)) (and_parts _ _ e).0 a) h

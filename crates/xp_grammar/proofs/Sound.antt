@@ -9,7 +9,7 @@ use Rattle.xp_grammar.specs.Kinds.{kind, has, ahead}
 use Rattle.xp_grammar.specs.Table.{Level, Sym, Tok, Lev, Value, Word, Start, Tail, level, parts, made, on, turn, is_open, fits, joined}
 use Rattle.xp_grammar.specs.Grammar.{Derives}
 use Rattle.xp_grammar.proofs.Front.{Front}
-use Rattle.xp_grammar.specs.Machine.{Outcome, Parser, and_then, pure, Node, Edges, node, stop, edge, trie, tails, opens, any_opens, symbol, finish, walk, choose, used, onward, one, run}
+use Rattle.xp_grammar.specs.inner.Machine.{Outcome, Parser, and_then, pure, Node, Edges, node, stop, edge, trie, tails, opens, any_opens, symbol, finish, walk, choose, used, onward, one, run}
 
 -- an outcome of reading ts: a part of ts with this value, or a front with so many tokens behind it
 abbrev pub Fine : {A : Type 0} → (List Token → A → Type 0) → (List Token → Type 0) → List Token → Outcome A → Type 0
@@ -36,11 +36,6 @@ bound : {A B : Type 0} (X : List Token → A → Type 0) (Y : List Token → B �
     → Fine Y G ts (and_then o f)
 bound X Y F G ts (Ok p) f (u, e, x) front next = next p.0 u p.1 e x
 bound X Y F G ts (Err n) f (u, r, e, len, x) front next = (u, r, e, len, front u x)
-
-mapped : {A B : Type 0} (X : List Token → A → Type 0) (Y : List Token → B → Type 0) (F : List Token → Type 0) (ts : List Token) (o : Outcome A) (f : A → B)
-    → Fine X F ts o → ((w : List Token) (a : A) → X w a → Y w (f a)) → Fine Y F ts (and_then o (λ a. pure (f a)))
-mapped X Y F ts (Ok p) f (u, e, x) whole = (u, e, whole u p.0 x)
-mapped X Y F ts (Err n) f x whole = x
 
 nil_only : {ts : List Token} {vs : List Value} → Derives [] ts vs → (ts ≡ []) × (vs ≡ [])
 nil_only Derives.none = (refl, refl)

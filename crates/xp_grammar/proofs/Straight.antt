@@ -5,7 +5,7 @@ use Rattle.xp_token.specs.declared.token.Token.{Token}
 use Rattle.xp_grammar.specs.declared.kind.Kind.TheVariants as k
 use Rattle.xp_grammar.specs.Kinds.{kind, ahead, has}
 use Rattle.xp_grammar.specs.Table.{Level, Tok, Lev, Value, Word, Start, Tail, is_open, made, joined}
-use Rattle.xp_grammar.specs.Machine.{Outcome, Parser, and_then, ◌>>=◌, pure, fail, expect, taken, after, starting, Node, Edges, node, stop, edge, trie, tails, first, any_opens, symbol, walk, choose, used, onward, parse, more}
+use Rattle.xp_grammar.specs.inner.Machine.{Outcome, Parser, and_then, ◌>>=◌, pure, fail, expect, taken, after, starting, Node, Edges, node, stop, edge, trie, tails, first, any_opens, symbol, walk, choose, used, onward, parse, more}
 use Rattle.xp_grammar.proofs.Fix.{parse_is, not_first}
 use Rattle.xp_grammar.proofs.Fronts.{paired}
 use Rattle.xp_grammar.proofs.Turns.{more_turn, more_ends}

@@ -3,8 +3,8 @@ use Rattle.std.proofs.Common.{◌≡◌, Bool, true, false, not, ◌&&◌, ◌||
 use Rattle.xp_grammar.specs.declared.kind.Kind.{Kind}
 use Rattle.xp_grammar.specs.Table.{Level}
 use Rattle.xp_grammar.specs.Table.{Level as l}
-use Rattle.xp_grammar.specs.Machine.{trie, tails, first}
-use Rattle.xp_grammar.specs.Tries.{lines_of, turns_of, begins}
+use Rattle.xp_grammar.specs.inner.Machine.{trie, tails, first}
+use Rattle.xp_grammar.specs.inner.Tries.{lines_of, turns_of, begins}
 use Rattle.xp_grammar.proofs.Bits.{every, every_at}
 
 pub trie_is : (m : Level) → trie m ≡ lines_of m

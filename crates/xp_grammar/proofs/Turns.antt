@@ -4,7 +4,7 @@ use Rattle.xp_token.specs.declared.token.Token.{Token}
 use Rattle.xp_grammar.specs.declared.kind.Class.{Class}
 use Rattle.xp_grammar.specs.Kinds.{kind, ahead, has}
 use Rattle.xp_grammar.specs.Table.{Level, Value, is_open, joined}
-use Rattle.xp_grammar.specs.Machine.{and_then, expect, tails, any_opens, choose, used, onward, rank, parse, more}
+use Rattle.xp_grammar.specs.inner.Machine.{and_then, expect, tails, any_opens, choose, used, onward, rank, parse, more}
 use Rattle.xp_grammar.proofs.Complete.{if_true, if_false}
 use Rattle.xp_grammar.proofs.Fronts.{left, run_left}
 use Rattle.xp_grammar.proofs.Fix.{Agree, and_then_same, choose_takes, expect_left, run_takes}
@@ -56,6 +56,3 @@ expect_left_is a (t ∷ ts) = by (has a (kind t))
     by : (b : Bool) → left (if b then Ok (t, ts) else Err (length (t ∷ ts))) ≤ length (t ∷ ts)
     by true = omega arith
     by false = omega arith
-
-pub expect_less : (a : Class) (t : Token) (ts r : List Token) → expect a ts ≡ Ok (t, r) → length r < length ts
-expect_less a t ts r e = let same : suc (length r) ≡ length ts = expect_left 0 parse parse itself a ts r t e in omega (arith, same)

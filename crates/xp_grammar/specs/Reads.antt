@@ -3,7 +3,7 @@ use Rattle.std.specs.Prelude.{◌≡◌, ℕ, List, [], ◌∷◌, ◌++◌, len
 use Rattle.xp_token.specs.declared.token.Token.{Token}
 use Rattle.xp_grammar.specs.Table.{Level, Lev, Value}
 use Rattle.xp_grammar.specs.Grammar.{Derives}
-use Rattle.xp_grammar.specs.Machine.{Outcome, parse}
+use Rattle.xp_grammar.specs.inner.Machine.{Outcome, parse}
 
 abbrev pub IsStatement : List Token → Value → Type 0
 IsStatement ts v = Derives (Lev Level.Statement ∷ []) ts (v ∷ [])

@@ -77,264 +77,11 @@ pub data Start : Type 0 where
 pub data Tail : Type 0 where
   union next_item next_row next_shown or and other_then other_then_prefix added multiplied raised cast empty_brackets brackets next_one next_variadic next_arm full_pair full_sized_pair : Tail
 
-abbrev pub level : Start → Level
-level selects = Statement
-level values = Statement
-level store = Statement
-level describe = Statement
-level explain = Statement
-level explain_analyze = Statement
-level select = Selects
-level first_item = Items
-level item = Item
-level item_as = Item
-level first_row = Rows
-level first_shown = Shown
-level one_or = E0
-level one_and = E1
-level not_free = E2
-level not = E2
-level test_free = E3
-level is_truth = E3
-level is_not_truth = E3
-level isnull = E3
-level notnull = E3
-level is_distinct = E3
-level is_not_distinct = E3
-level compare_free = E4
-level compared = E4
-level range_free = E5
-level between = E5
-level not_between = E5
-level within = E5
-level not_within = E5
-level like = E5
-level not_like = E5
-level other_free = E6
-level other_prefix = E6
-level prefix = P
-level prefix_prefix = P
-level one_sum = E7
-level one_product = E8
-level one_power = E9
-level sign_free = E10
-level signed = E10
-level operand = E11
-level constant = E12
-level column = E12
-level typed_constant = E12
-level called_empty = E12
-level called = E12
-level paren = E12
-level cast_as = E12
-level cases = E12
-level cases_else = E12
-level cases_of = E12
-level cases_of_else = E12
-level selection = E12
-level nullif = E12
-level array_empty = E12
-level array = E12
-level position = E12
-level substring_one = E12
-level substring_more = E12
-level substring_from = E12
-level substring_from_for = E12
-level substring_for = E12
-level trim_from = E12
-level trim_set_from = E12
-level trim_side_from = E12
-level trim_side_set_from = E12
-level trim = E12
-level trim_set = E12
-level trim_side = E12
-level trim_side_set = E12
-level extract = E12
-level one_arg = Args
-level variadic = Args
-level first_arm = Arms
-level full_basic = Full
-level basic = Basic
-level basic_sized = Basic
-level basic_scaled = Basic
-level plain_type = Typename
-level double_type = Typename
-level double_precision = Typename
-level character_type = Typename
-level character_varying = Typename
-level moment_type = Typename
-level moment_zoned = Typename
-
-abbrev pub parts : Start → List Sym
-parts selects = Lev Selects ∷ []
-parts values = word w.Values ∷ Lev Rows ∷ []
-parts store = word w.Store ∷ Lev Full ∷ word w.From ∷ Lev E0 ∷ []
-parts describe = word w.Describe ∷ Lev Shown ∷ []
-parts explain = word w.Explain ∷ Lev E0 ∷ []
-parts explain_analyze = word w.Explain ∷ word w.Analyze ∷ Lev E0 ∷ []
-parts select = word w.Select ∷ Lev Items ∷ []
-parts first_item = Lev Item ∷ []
-parts item = Lev E0 ∷ []
-parts item_as = Lev E0 ∷ word w.As ∷ Tok Names ∷ []
-parts first_row = mark m.OpenParen ∷ Lev Shown ∷ mark m.CloseParen ∷ []
-parts first_shown = Lev E0 ∷ []
-parts one_or = Lev E1 ∷ []
-parts one_and = Lev E2 ∷ []
-parts not_free = Lev E3 ∷ []
-parts not = word w.Not ∷ Lev E2 ∷ []
-parts test_free = Lev E4 ∷ []
-parts is_truth = Lev E4 ∷ word w.Is ∷ Tok TruthTests ∷ []
-parts is_not_truth = Lev E4 ∷ word w.Is ∷ word w.Not ∷ Tok TruthTests ∷ []
-parts isnull = Lev E4 ∷ word w.Isnull ∷ []
-parts notnull = Lev E4 ∷ word w.Notnull ∷ []
-parts is_distinct = Lev E4 ∷ word w.Is ∷ word w.Distinct ∷ word w.From ∷ Lev E4 ∷ []
-parts is_not_distinct = Lev E4 ∷ word w.Is ∷ word w.Not ∷ word w.Distinct ∷ word w.From ∷ Lev E4 ∷ []
-parts compare_free = Lev E5 ∷ []
-parts compared = Lev E5 ∷ tok k.Compare ∷ Lev E5 ∷ []
-parts range_free = Lev E6 ∷ []
-parts between = Lev E6 ∷ word w.Between ∷ Lev E6 ∷ word w.And ∷ Lev E6 ∷ []
-parts not_between = Lev E6 ∷ word w.Not ∷ word w.Between ∷ Lev E6 ∷ word w.And ∷ Lev E6 ∷ []
-parts within = Lev E6 ∷ word w.In ∷ mark m.OpenParen ∷ Lev Shown ∷ mark m.CloseParen ∷ []
-parts not_within = Lev E6 ∷ word w.Not ∷ word w.In ∷ mark m.OpenParen ∷ Lev Shown ∷ mark m.CloseParen ∷ []
-parts like = Lev E6 ∷ Tok Likes ∷ Lev E6 ∷ []
-parts not_like = Lev E6 ∷ word w.Not ∷ Tok Likes ∷ Lev E6 ∷ []
-parts other_free = Lev E7 ∷ []
-parts other_prefix = Lev P ∷ []
-parts prefix = tok k.Other ∷ Lev E7 ∷ []
-parts prefix_prefix = tok k.Other ∷ Lev P ∷ []
-parts one_sum = Lev E8 ∷ []
-parts one_product = Lev E9 ∷ []
-parts one_power = Lev E10 ∷ []
-parts sign_free = Lev E11 ∷ []
-parts signed = tok k.Sign ∷ Lev E10 ∷ []
-parts operand = Lev E12 ∷ []
-parts constant = Tok Constants ∷ []
-parts column = Tok Names ∷ []
-parts typed_constant = Tok Names ∷ tok k.String ∷ []
-parts called_empty = Tok Names ∷ mark m.OpenParen ∷ mark m.CloseParen ∷ []
-parts called = Tok Names ∷ mark m.OpenParen ∷ Lev Args ∷ mark m.CloseParen ∷ []
-parts paren = mark m.OpenParen ∷ Lev E0 ∷ mark m.CloseParen ∷ []
-parts cast_as = word w.Cast ∷ mark m.OpenParen ∷ Lev E0 ∷ word w.As ∷ Lev Full ∷ mark m.CloseParen ∷ []
-parts cases = word w.Case ∷ Lev Arms ∷ word w.End ∷ []
-parts cases_else = word w.Case ∷ Lev Arms ∷ word w.Else ∷ Lev E0 ∷ word w.End ∷ []
-parts cases_of = word w.Case ∷ Lev E0 ∷ Lev Arms ∷ word w.End ∷ []
-parts cases_of_else = word w.Case ∷ Lev E0 ∷ Lev Arms ∷ word w.Else ∷ Lev E0 ∷ word w.End ∷ []
-parts selection = Tok Selections ∷ mark m.OpenParen ∷ Lev Shown ∷ mark m.CloseParen ∷ []
-parts nullif = word w.Nullif ∷ mark m.OpenParen ∷ Lev E0 ∷ mark m.Comma ∷ Lev E0 ∷ mark m.CloseParen ∷ []
-parts array_empty = word w.Array ∷ mark m.OpenBracket ∷ mark m.CloseBracket ∷ []
-parts array = word w.Array ∷ mark m.OpenBracket ∷ Lev Shown ∷ mark m.CloseBracket ∷ []
-parts position = word w.Position ∷ mark m.OpenParen ∷ Lev E6 ∷ word w.In ∷ Lev E6 ∷ mark m.CloseParen ∷ []
-parts substring_one = word w.Substring ∷ mark m.OpenParen ∷ Lev E0 ∷ mark m.CloseParen ∷ []
-parts substring_more = word w.Substring ∷ mark m.OpenParen ∷ Lev E0 ∷ mark m.Comma ∷ Lev Shown ∷ mark m.CloseParen ∷ []
-parts substring_from = word w.Substring ∷ mark m.OpenParen ∷ Lev E0 ∷ word w.From ∷ Lev E0 ∷ mark m.CloseParen ∷ []
-parts substring_from_for = word w.Substring ∷ mark m.OpenParen ∷ Lev E0 ∷ word w.From ∷ Lev E0 ∷ word w.For ∷ Lev E0 ∷ mark m.CloseParen ∷ []
-parts substring_for = word w.Substring ∷ mark m.OpenParen ∷ Lev E0 ∷ word w.For ∷ Lev E0 ∷ mark m.CloseParen ∷ []
-parts trim_from = word w.Trim ∷ mark m.OpenParen ∷ word w.From ∷ Lev E0 ∷ mark m.CloseParen ∷ []
-parts trim_set_from = word w.Trim ∷ mark m.OpenParen ∷ Lev E0 ∷ word w.From ∷ Lev E0 ∷ mark m.CloseParen ∷ []
-parts trim_side_from = word w.Trim ∷ mark m.OpenParen ∷ Tok Sides ∷ word w.From ∷ Lev E0 ∷ mark m.CloseParen ∷ []
-parts trim_side_set_from = word w.Trim ∷ mark m.OpenParen ∷ Tok Sides ∷ Lev E0 ∷ word w.From ∷ Lev E0 ∷ mark m.CloseParen ∷ []
-parts trim = word w.Trim ∷ mark m.OpenParen ∷ Lev E0 ∷ mark m.CloseParen ∷ []
-parts trim_set = word w.Trim ∷ mark m.OpenParen ∷ Lev E0 ∷ mark m.Comma ∷ Lev E0 ∷ mark m.CloseParen ∷ []
-parts trim_side = word w.Trim ∷ mark m.OpenParen ∷ Tok Sides ∷ Lev E0 ∷ mark m.CloseParen ∷ []
-parts trim_side_set = word w.Trim ∷ mark m.OpenParen ∷ Tok Sides ∷ Lev E0 ∷ mark m.Comma ∷ Lev E0 ∷ mark m.CloseParen ∷ []
-parts extract = word w.Extract ∷ mark m.OpenParen ∷ Tok Fields ∷ word w.From ∷ Lev E0 ∷ mark m.CloseParen ∷ []
-parts one_arg = Lev E0 ∷ []
-parts variadic = word w.Variadic ∷ Lev E0 ∷ []
-parts first_arm = word w.When ∷ Lev E0 ∷ word w.Then ∷ Lev E0 ∷ []
-parts full_basic = Lev Basic ∷ []
-parts basic = Lev Typename ∷ []
-parts basic_sized = Lev Typename ∷ mark m.OpenParen ∷ tok k.Whole ∷ mark m.CloseParen ∷ []
-parts basic_scaled = Lev Typename ∷ mark m.OpenParen ∷ tok k.Whole ∷ mark m.Comma ∷ tok k.Whole ∷ mark m.CloseParen ∷ []
-parts plain_type = Tok Plains ∷ []
-parts double_type = tok k.Double ∷ []
-parts double_precision = tok k.Double ∷ tok k.Precision ∷ []
-parts character_type = tok k.Character ∷ []
-parts character_varying = tok k.Character ∷ tok k.Varying ∷ []
-parts moment_type = Tok Moments ∷ []
-parts moment_zoned = Tok Moments ∷ Tok Zoned ∷ tok k.Time ∷ tok k.Zone ∷ []
-
-abbrev pub on : Tail → Level
-on union = Selects
-on next_item = Items
-on next_row = Rows
-on next_shown = Shown
-on or = E0
-on and = E1
-on other_then = E6
-on other_then_prefix = E6
-on added = E7
-on multiplied = E8
-on raised = E9
-on cast = E11
-on empty_brackets = E11
-on brackets = E11
-on next_one = Args
-on next_variadic = Args
-on next_arm = Arms
-on full_pair = Full
-on full_sized_pair = Full
-
-abbrev pub lead : Tail → Class
-lead union = Only (k.Word w.Union)
-lead next_item = Only (k.Mark m.Comma)
-lead next_row = Only (k.Mark m.Comma)
-lead next_shown = Only (k.Mark m.Comma)
-lead or = Only (k.Word w.Or)
-lead and = Only (k.Word w.And)
-lead other_then = Only k.Other
-lead other_then_prefix = Only k.Other
-lead added = Only k.Sign
-lead multiplied = Only k.Times
-lead raised = Only k.Power
-lead cast = Only (k.Mark m.DoubleColon)
-lead empty_brackets = Only (k.Mark m.OpenBracket)
-lead brackets = Only (k.Mark m.OpenBracket)
-lead next_one = Only (k.Mark m.Comma)
-lead next_variadic = Only (k.Mark m.Comma)
-lead next_arm = Only (k.Word w.When)
-lead full_pair = Only (k.Mark m.OpenBracket)
-lead full_sized_pair = Only (k.Mark m.OpenBracket)
-
-abbrev pub rest : Tail → List Sym
-rest union = word w.All ∷ word w.Select ∷ Lev Items ∷ []
-rest next_item = Lev Item ∷ []
-rest next_row = mark m.OpenParen ∷ Lev Shown ∷ mark m.CloseParen ∷ []
-rest next_shown = Lev E0 ∷ []
-rest or = Lev E1 ∷ []
-rest and = Lev E2 ∷ []
-rest other_then = Lev E7 ∷ []
-rest other_then_prefix = Lev P ∷ []
-rest added = Lev E8 ∷ []
-rest multiplied = Lev E9 ∷ []
-rest raised = Lev E10 ∷ []
-rest cast = Lev Basic ∷ []
-rest empty_brackets = mark m.CloseBracket ∷ []
-rest brackets = Lev E0 ∷ mark m.CloseBracket ∷ []
-rest next_one = Lev E0 ∷ []
-rest next_variadic = word w.Variadic ∷ Lev E0 ∷ []
-rest next_arm = Lev E0 ∷ word w.Then ∷ Lev E0 ∷ []
-rest full_pair = mark m.CloseBracket ∷ []
-rest full_sized_pair = tok k.Whole ∷ mark m.CloseBracket ∷ []
-
--- what stands behind the level in its own line
-abbrev pub turn : Tail → List Sym
-turn x = Tok (lead x) ∷ rest x
-
 -- an expression that ends in a type, and arguments without VARIADIC
 abbrev pub is_open : Value → Bool
 is_open (Casted a p n) = true
 is_open (Given all false) = true
 is_open _ = false
-
-abbrev pub takes : Tail → Bool → Bool
-takes empty_brackets b = b
-takes next_one b = b
-takes next_variadic b = b
-takes _ b = true
-
--- empty brackets stand behind a type alone, and nothing behind the argument of VARIADIC
-abbrev pub fits : Tail → Value → Bool
-fits x v = takes x (is_open v)
 
 -- ---- what tokens hold
 
@@ -554,95 +301,6 @@ abbrev pub trimmed_set : Span → Option Side → Value → List Value → Value
 trimmed_set p side (Tree x) (Tree y ∷ a ∷ []) = Tree (e.Trim p side x (Some y))
 trimmed_set p side _ _ = Wrong
 
-abbrev pub made : Start → List Value → Value
-made selects (Selected arms ∷ []) = selected arms
-made values (Word a ∷ Lists lists ∷ []) = Stated (stating.Values (at a) lists)
-made store (Word a ∷ Named n ∷ b ∷ Tree x ∷ []) = Stated (stating.Store (at a) n x)
-made describe (Word a ∷ Trees all ∷ []) = Stated (stating.Describe (at a) all)
-made explain (Word a ∷ Tree x ∷ []) = Stated (stating.Explain (at a) x)
-made explain_analyze (Word a ∷ b ∷ Tree x ∷ []) = Stated (stating.ExplainAnalyze (at a) x)
-made select vs = with_select (Selected []) vs
-made first_item vs = with_item (Labels []) vs
-made item (Tree x ∷ []) = Labelled (labelled x None)
-made item_as (Tree x ∷ a ∷ Word n ∷ []) = Labelled (labelled x (Some (name_of n)))
-made first_row vs = with_row (Lists []) vs
-made first_shown vs = with_shown (Trees []) vs
-made one_or (v ∷ []) = v
-made one_and (v ∷ []) = v
-made not_free (v ∷ []) = v
-made not (Word a ∷ Tree x ∷ []) = Tree (e.Not (at a) x)
-made test_free (v ∷ []) = v
-made is_truth (v ∷ vs) = is_of false v vs
-made is_not_truth (v ∷ vs) = is_of true v (negated_is vs)
-made isnull (Tree x ∷ Word a ∷ []) = Tree (e.Is (at a) false tests.Null x)
-made notnull (Tree x ∷ Word a ∷ []) = Tree (e.Is (at a) true tests.Null x)
-made is_distinct (v ∷ vs) = distinct_of false v vs
-made is_not_distinct (v ∷ vs) = distinct_of true v (negated_is vs)
-made compare_free (v ∷ []) = v
-made compared (Tree x ∷ Word a ∷ Tree y ∷ []) = Tree (e.Compare (at a) (name_of a) x y)
-made range_free (v ∷ []) = v
-made between (v ∷ vs) = between_of false v vs
-made not_between (v ∷ a ∷ vs) = between_of true v vs
-made within (v ∷ vs) = in_of false v vs
-made not_within (v ∷ a ∷ vs) = in_of true v vs
-made like (v ∷ vs) = like_of false v vs
-made not_like (v ∷ a ∷ vs) = like_of true v vs
-made other_free (v ∷ []) = v
-made other_prefix (v ∷ []) = v
-made prefix vs = prefix_of vs
-made prefix_prefix vs = prefix_of vs
-made one_sum (v ∷ []) = v
-made one_product (v ∷ []) = v
-made one_power (v ∷ []) = v
-made sign_free (v ∷ []) = closed v
-made signed (Word a ∷ Tree x ∷ []) = Tree (e.Sign (at a) (name_of a) x)
-made operand (v ∷ []) = v
-made constant (Word a ∷ []) = Tree (constant_of a)
-made column (Word a ∷ []) = Tree (e.Column (at a) (name_of a))
-made typed_constant (Word a ∷ Word b ∷ []) = Tree (e.Typed (one_word a) (at b) (name_of b))
-made called_empty (Word a ∷ b ∷ c ∷ []) = Tree (e.Call (at a) (name_of a) [] false)
-made called (Word a ∷ b ∷ v ∷ c ∷ []) = call_of a v
-made paren (Word a ∷ Tree x ∷ b ∷ []) = Tree (e.Paren (at a) x)
-made cast_as (Word a ∷ b ∷ Tree x ∷ c ∷ Named n ∷ d ∷ []) = Tree (e.Cast (at a) x n)
-made cases (Word a ∷ vs) = case_of (at a) None vs
-made cases_else (Word a ∷ vs) = case_of (at a) None vs
-made cases_of (Word a ∷ v ∷ vs) = operand_case (at a) v vs
-made cases_of_else (Word a ∷ v ∷ vs) = operand_case (at a) v vs
-made selection (Word a ∷ b ∷ Trees all ∷ c ∷ []) = Tree (e.Selection (at a) (selection_of a) all)
-made nullif (Word a ∷ b ∷ Tree x ∷ c ∷ Tree y ∷ d ∷ []) = Tree (e.NullIf (at a) x y)
-made array_empty (Word a ∷ b ∷ c ∷ []) = Tree (e.Array (at a) [])
-made array (Word a ∷ b ∷ Trees all ∷ c ∷ []) = Tree (e.Array (at a) all)
-made position (Word a ∷ b ∷ Tree x ∷ c ∷ Tree y ∷ d ∷ []) = Tree (e.Position (at a) x y)
-made substring_one (Word a ∷ b ∷ v ∷ c ∷ []) = substring_alone (at a) v
-made substring_more (Word a ∷ b ∷ v ∷ c ∷ vs) = substring_listed (at a) v vs
-made substring_from (Word a ∷ b ∷ v ∷ c ∷ vs) = substring_begun (at a) v vs
-made substring_from_for (Word a ∷ b ∷ v ∷ c ∷ vs) = substring_begun (at a) v vs
-made substring_for (Word a ∷ b ∷ v ∷ c ∷ vs) = substring_ended (at a) v vs
-made trim_from (Word a ∷ b ∷ c ∷ vs) = trimmed_from (at a) None None vs
-made trim_set_from (Word a ∷ b ∷ v ∷ c ∷ vs) = trimmed_set_from (at a) None v vs
-made trim_side_from (Word a ∷ b ∷ Word c ∷ d ∷ vs) = trimmed_from (at a) (Some (side_of c)) None vs
-made trim_side_set_from (Word a ∷ b ∷ Word c ∷ v ∷ d ∷ vs) = trimmed_set_from (at a) (Some (side_of c)) v vs
-made trim (Word a ∷ b ∷ v ∷ c ∷ []) = trimmed (at a) None v
-made trim_set (Word a ∷ b ∷ v ∷ c ∷ vs) = trimmed_set (at a) None v vs
-made trim_side (Word a ∷ b ∷ Word c ∷ v ∷ d ∷ []) = trimmed (at a) (Some (side_of c)) v
-made trim_side_set (Word a ∷ b ∷ Word c ∷ v ∷ d ∷ vs) = trimmed_set (at a) (Some (side_of c)) v vs
-made extract (Word a ∷ b ∷ Word c ∷ d ∷ Tree x ∷ f ∷ []) = Tree (e.Extract (at a) (at c) (name_of c) x)
-made one_arg vs = with_arg (Given [] false) vs
-made variadic vs = with_variadic (Given [] false) vs
-made first_arm vs = with_arm (Cases []) vs
-made full_basic (v ∷ []) = v
-made basic (Spelled p n ∷ []) = Named (words p n modifier.None)
-made basic_sized (Spelled p n ∷ Word a ∷ Word b ∷ c ∷ []) = Named (words p n (sized (at a) b.kind))
-made basic_scaled (Spelled p n ∷ Word a ∷ Word b ∷ c ∷ Word d ∷ f ∷ []) = Named (words p n (scaled (at a) b.kind d.kind))
-made plain_type (Word a ∷ []) = Spelled (at a) (type_name a)
-made double_type (Word a ∷ []) = Spelled (at a) (type_name a)
-made double_precision (Word a ∷ b ∷ []) = Spelled (at a) name.DoublePrecision
-made character_type (Word a ∷ []) = Spelled (at a) (type_name a)
-made character_varying (Word a ∷ b ∷ []) = Spelled (at a) name.CharacterVarying
-made moment_type (Word a ∷ []) = Spelled (at a) (type_name a)
-made moment_zoned (Word a ∷ Word b ∷ c ∷ d ∷ []) = Spelled (at a) (zoned b (moment_of a))
-made _ _ = Wrong
-
 -- two operands and what stands between them
 abbrev pub or_of : Value → List Value → Value
 or_of (Tree x) (Word a ∷ Tree y ∷ []) = Tree (e.Or (at a) x y)
@@ -708,24 +366,233 @@ abbrev pub union_alone : List Value → List Value
 union_alone (a ∷ b ∷ c ∷ vs) = a ∷ vs
 union_alone _ = []
 
--- the line's value, by the value of the level before, and the tokens and values of what stands behind it
+-- ---- the lines
+
+-- a line: its level, its symbols, and what is built of their values
+pub record Line : Type 0 where
+  pub level : Level
+  pub parts : List Sym
+  pub builds : List Value → Value
+
+abbrev at_level : Level → List Sym → (List Value → Value) → Line
+at_level m ss f = record { level = m; parts = ss; builds = f }
+
+abbrev alone : List Value → Value
+alone (v ∷ []) = v
+alone _ = Wrong
+
+abbrev pub line : Start → Line
+line values = at_level Statement (word w.Values ∷ Lev Rows ∷ [])
+    (elim [ Word a ∷ Lists lists ∷ [] ↦ Stated (stating.Values (at a) lists) | _ ↦ Wrong ])
+line store = at_level Statement (word w.Store ∷ Lev Full ∷ word w.From ∷ Lev E0 ∷ [])
+    (elim [ Word a ∷ Named n ∷ b ∷ Tree x ∷ [] ↦ Stated (stating.Store (at a) n x) | _ ↦ Wrong ])
+line describe = at_level Statement (word w.Describe ∷ Lev Shown ∷ [])
+    (elim [ Word a ∷ Trees all ∷ [] ↦ Stated (stating.Describe (at a) all) | _ ↦ Wrong ])
+line explain_analyze = at_level Statement (word w.Explain ∷ word w.Analyze ∷ Lev E0 ∷ [])
+    (elim [ Word a ∷ b ∷ Tree x ∷ [] ↦ Stated (stating.ExplainAnalyze (at a) x) | _ ↦ Wrong ])
+line explain = at_level Statement (word w.Explain ∷ Lev E0 ∷ []) (elim [ Word a ∷ Tree x ∷ [] ↦ Stated (stating.Explain (at a) x) | _ ↦ Wrong ])
+line selects = at_level Statement (Lev Selects ∷ []) (elim [ Selected arms ∷ [] ↦ selected arms | _ ↦ Wrong ])
+line select = at_level Selects (word w.Select ∷ Lev Items ∷ []) (with_select (Selected []))
+line first_item = at_level Items (Lev Item ∷ []) (with_item (Labels []))
+line item = at_level Item (Lev E0 ∷ []) (elim [ Tree x ∷ [] ↦ Labelled (labelled x None) | _ ↦ Wrong ])
+line item_as = at_level Item (Lev E0 ∷ word w.As ∷ Tok Names ∷ [])
+    (elim [ Tree x ∷ a ∷ Word n ∷ [] ↦ Labelled (labelled x (Some (name_of n))) | _ ↦ Wrong ])
+line first_row = at_level Rows (mark m.OpenParen ∷ Lev Shown ∷ mark m.CloseParen ∷ []) (with_row (Lists []))
+line first_shown = at_level Shown (Lev E0 ∷ []) (with_shown (Trees []))
+line one_or = at_level E0 (Lev E1 ∷ []) alone
+line one_and = at_level E1 (Lev E2 ∷ []) alone
+line not = at_level E2 (word w.Not ∷ Lev E2 ∷ []) (elim [ Word a ∷ Tree x ∷ [] ↦ Tree (e.Not (at a) x) | _ ↦ Wrong ])
+line not_free = at_level E2 (Lev E3 ∷ []) alone
+line test_free = at_level E3 (Lev E4 ∷ []) alone
+line is_not_truth = at_level E3 (Lev E4 ∷ word w.Is ∷ word w.Not ∷ Tok TruthTests ∷ []) (elim [ v ∷ vs ↦ is_of true v (negated_is vs) | _ ↦ Wrong ])
+line is_not_distinct = at_level E3 (Lev E4 ∷ word w.Is ∷ word w.Not ∷ word w.Distinct ∷ word w.From ∷ Lev E4 ∷ [])
+    (elim [ v ∷ vs ↦ distinct_of true v (negated_is vs) | _ ↦ Wrong ])
+line is_truth = at_level E3 (Lev E4 ∷ word w.Is ∷ Tok TruthTests ∷ []) (elim [ v ∷ vs ↦ is_of false v vs | _ ↦ Wrong ])
+line is_distinct = at_level E3 (Lev E4 ∷ word w.Is ∷ word w.Distinct ∷ word w.From ∷ Lev E4 ∷ [])
+    (elim [ v ∷ vs ↦ distinct_of false v vs | _ ↦ Wrong ])
+line isnull = at_level E3 (Lev E4 ∷ word w.Isnull ∷ []) (elim [ Tree x ∷ Word a ∷ [] ↦ Tree (e.Is (at a) false tests.Null x) | _ ↦ Wrong ])
+line notnull = at_level E3 (Lev E4 ∷ word w.Notnull ∷ []) (elim [ Tree x ∷ Word a ∷ [] ↦ Tree (e.Is (at a) true tests.Null x) | _ ↦ Wrong ])
+line compare_free = at_level E4 (Lev E5 ∷ []) alone
+line compared = at_level E4 (Lev E5 ∷ tok k.Compare ∷ Lev E5 ∷ [])
+    (elim [ Tree x ∷ Word a ∷ Tree y ∷ [] ↦ Tree (e.Compare (at a) (name_of a) x y) | _ ↦ Wrong ])
+line range_free = at_level E5 (Lev E6 ∷ []) alone
+line not_between = at_level E5 (Lev E6 ∷ word w.Not ∷ word w.Between ∷ Lev E6 ∷ word w.And ∷ Lev E6 ∷ [])
+    (elim [ v ∷ a ∷ vs ↦ between_of true v vs | _ ↦ Wrong ])
+line not_within = at_level E5 (Lev E6 ∷ word w.Not ∷ word w.In ∷ mark m.OpenParen ∷ Lev Shown ∷ mark m.CloseParen ∷ [])
+    (elim [ v ∷ a ∷ vs ↦ in_of true v vs | _ ↦ Wrong ])
+line not_like = at_level E5 (Lev E6 ∷ word w.Not ∷ Tok Likes ∷ Lev E6 ∷ []) (elim [ v ∷ a ∷ vs ↦ like_of true v vs | _ ↦ Wrong ])
+line between = at_level E5 (Lev E6 ∷ word w.Between ∷ Lev E6 ∷ word w.And ∷ Lev E6 ∷ []) (elim [ v ∷ vs ↦ between_of false v vs | _ ↦ Wrong ])
+line within = at_level E5 (Lev E6 ∷ word w.In ∷ mark m.OpenParen ∷ Lev Shown ∷ mark m.CloseParen ∷ [])
+    (elim [ v ∷ vs ↦ in_of false v vs | _ ↦ Wrong ])
+line like = at_level E5 (Lev E6 ∷ Tok Likes ∷ Lev E6 ∷ []) (elim [ v ∷ vs ↦ like_of false v vs | _ ↦ Wrong ])
+line other_prefix = at_level E6 (Lev P ∷ []) alone
+line other_free = at_level E6 (Lev E7 ∷ []) alone
+line prefix_prefix = at_level P (tok k.Other ∷ Lev P ∷ []) prefix_of
+line prefix = at_level P (tok k.Other ∷ Lev E7 ∷ []) prefix_of
+line one_sum = at_level E7 (Lev E8 ∷ []) alone
+line one_product = at_level E8 (Lev E9 ∷ []) alone
+line one_power = at_level E9 (Lev E10 ∷ []) alone
+line signed = at_level E10 (tok k.Sign ∷ Lev E10 ∷ []) (elim [ Word a ∷ Tree x ∷ [] ↦ Tree (e.Sign (at a) (name_of a) x) | _ ↦ Wrong ])
+line sign_free = at_level E10 (Lev E11 ∷ []) (elim [ v ∷ [] ↦ closed v | _ ↦ Wrong ])
+line operand = at_level E11 (Lev E12 ∷ []) alone
+line constant = at_level E12 (Tok Constants ∷ []) (elim [ Word a ∷ [] ↦ Tree (constant_of a) | _ ↦ Wrong ])
+line column = at_level E12 (Tok Names ∷ []) (elim [ Word a ∷ [] ↦ Tree (e.Column (at a) (name_of a)) | _ ↦ Wrong ])
+line typed_constant = at_level E12 (Tok Names ∷ tok k.String ∷ [])
+    (elim [ Word a ∷ Word b ∷ [] ↦ Tree (e.Typed (one_word a) (at b) (name_of b)) | _ ↦ Wrong ])
+line called_empty = at_level E12 (Tok Names ∷ mark m.OpenParen ∷ mark m.CloseParen ∷ [])
+    (elim [ Word a ∷ b ∷ c ∷ [] ↦ Tree (e.Call (at a) (name_of a) [] false) | _ ↦ Wrong ])
+line called = at_level E12 (Tok Names ∷ mark m.OpenParen ∷ Lev Args ∷ mark m.CloseParen ∷ [])
+    (elim [ Word a ∷ b ∷ v ∷ c ∷ [] ↦ call_of a v | _ ↦ Wrong ])
+line paren = at_level E12 (mark m.OpenParen ∷ Lev E0 ∷ mark m.CloseParen ∷ [])
+    (elim [ Word a ∷ Tree x ∷ b ∷ [] ↦ Tree (e.Paren (at a) x) | _ ↦ Wrong ])
+line cast_as = at_level E12 (word w.Cast ∷ mark m.OpenParen ∷ Lev E0 ∷ word w.As ∷ Lev Full ∷ mark m.CloseParen ∷ [])
+    (elim [ Word a ∷ b ∷ Tree x ∷ c ∷ Named n ∷ d ∷ [] ↦ Tree (e.Cast (at a) x n) | _ ↦ Wrong ])
+line cases_else = at_level E12 (word w.Case ∷ Lev Arms ∷ word w.Else ∷ Lev E0 ∷ word w.End ∷ [])
+    (elim [ Word a ∷ vs ↦ case_of (at a) None vs | _ ↦ Wrong ])
+line cases = at_level E12 (word w.Case ∷ Lev Arms ∷ word w.End ∷ []) (elim [ Word a ∷ vs ↦ case_of (at a) None vs | _ ↦ Wrong ])
+line cases_of_else = at_level E12 (word w.Case ∷ Lev E0 ∷ Lev Arms ∷ word w.Else ∷ Lev E0 ∷ word w.End ∷ [])
+    (elim [ Word a ∷ v ∷ vs ↦ operand_case (at a) v vs | _ ↦ Wrong ])
+line cases_of = at_level E12 (word w.Case ∷ Lev E0 ∷ Lev Arms ∷ word w.End ∷ []) (elim [ Word a ∷ v ∷ vs ↦ operand_case (at a) v vs | _ ↦ Wrong ])
+line selection = at_level E12 (Tok Selections ∷ mark m.OpenParen ∷ Lev Shown ∷ mark m.CloseParen ∷ [])
+    (elim [ Word a ∷ b ∷ Trees all ∷ c ∷ [] ↦ Tree (e.Selection (at a) (selection_of a) all) | _ ↦ Wrong ])
+line nullif = at_level E12 (word w.Nullif ∷ mark m.OpenParen ∷ Lev E0 ∷ mark m.Comma ∷ Lev E0 ∷ mark m.CloseParen ∷ [])
+    (elim [ Word a ∷ b ∷ Tree x ∷ c ∷ Tree y ∷ d ∷ [] ↦ Tree (e.NullIf (at a) x y) | _ ↦ Wrong ])
+line array_empty = at_level E12 (word w.Array ∷ mark m.OpenBracket ∷ mark m.CloseBracket ∷ [])
+    (elim [ Word a ∷ b ∷ c ∷ [] ↦ Tree (e.Array (at a) []) | _ ↦ Wrong ])
+line array = at_level E12 (word w.Array ∷ mark m.OpenBracket ∷ Lev Shown ∷ mark m.CloseBracket ∷ [])
+    (elim [ Word a ∷ b ∷ Trees all ∷ c ∷ [] ↦ Tree (e.Array (at a) all) | _ ↦ Wrong ])
+line position = at_level E12 (word w.Position ∷ mark m.OpenParen ∷ Lev E6 ∷ word w.In ∷ Lev E6 ∷ mark m.CloseParen ∷ [])
+    (elim [ Word a ∷ b ∷ Tree x ∷ c ∷ Tree y ∷ d ∷ [] ↦ Tree (e.Position (at a) x y) | _ ↦ Wrong ])
+line substring_more = at_level E12 (word w.Substring ∷ mark m.OpenParen ∷ Lev E0 ∷ mark m.Comma ∷ Lev Shown ∷ mark m.CloseParen ∷ [])
+    (elim [ Word a ∷ b ∷ v ∷ c ∷ vs ↦ substring_listed (at a) v vs | _ ↦ Wrong ])
+line substring_from_for = at_level E12 (word w.Substring ∷ mark m.OpenParen ∷ Lev E0 ∷ word w.From ∷ Lev E0 ∷ word w.For ∷ Lev E0 ∷ mark m.CloseParen ∷ [])
+    (elim [ Word a ∷ b ∷ v ∷ c ∷ vs ↦ substring_begun (at a) v vs | _ ↦ Wrong ])
+line substring_from = at_level E12 (word w.Substring ∷ mark m.OpenParen ∷ Lev E0 ∷ word w.From ∷ Lev E0 ∷ mark m.CloseParen ∷ [])
+    (elim [ Word a ∷ b ∷ v ∷ c ∷ vs ↦ substring_begun (at a) v vs | _ ↦ Wrong ])
+line substring_for = at_level E12 (word w.Substring ∷ mark m.OpenParen ∷ Lev E0 ∷ word w.For ∷ Lev E0 ∷ mark m.CloseParen ∷ [])
+    (elim [ Word a ∷ b ∷ v ∷ c ∷ vs ↦ substring_ended (at a) v vs | _ ↦ Wrong ])
+line substring_one = at_level E12 (word w.Substring ∷ mark m.OpenParen ∷ Lev E0 ∷ mark m.CloseParen ∷ [])
+    (elim [ Word a ∷ b ∷ v ∷ c ∷ [] ↦ substring_alone (at a) v | _ ↦ Wrong ])
+line trim_side_from = at_level E12 (word w.Trim ∷ mark m.OpenParen ∷ Tok Sides ∷ word w.From ∷ Lev E0 ∷ mark m.CloseParen ∷ [])
+    (elim [ Word a ∷ b ∷ Word c ∷ d ∷ vs ↦ trimmed_from (at a) (Some (side_of c)) None vs | _ ↦ Wrong ])
+line trim_side_set_from = at_level E12 (word w.Trim ∷ mark m.OpenParen ∷ Tok Sides ∷ Lev E0 ∷ word w.From ∷ Lev E0 ∷ mark m.CloseParen ∷ [])
+    (elim [ Word a ∷ b ∷ Word c ∷ v ∷ d ∷ vs ↦ trimmed_set_from (at a) (Some (side_of c)) v vs | _ ↦ Wrong ])
+line trim_side_set = at_level E12 (word w.Trim ∷ mark m.OpenParen ∷ Tok Sides ∷ Lev E0 ∷ mark m.Comma ∷ Lev E0 ∷ mark m.CloseParen ∷ [])
+    (elim [ Word a ∷ b ∷ Word c ∷ v ∷ d ∷ vs ↦ trimmed_set (at a) (Some (side_of c)) v vs | _ ↦ Wrong ])
+line trim_side = at_level E12 (word w.Trim ∷ mark m.OpenParen ∷ Tok Sides ∷ Lev E0 ∷ mark m.CloseParen ∷ [])
+    (elim [ Word a ∷ b ∷ Word c ∷ v ∷ d ∷ [] ↦ trimmed (at a) (Some (side_of c)) v | _ ↦ Wrong ])
+line trim_from = at_level E12 (word w.Trim ∷ mark m.OpenParen ∷ word w.From ∷ Lev E0 ∷ mark m.CloseParen ∷ [])
+    (elim [ Word a ∷ b ∷ c ∷ vs ↦ trimmed_from (at a) None None vs | _ ↦ Wrong ])
+line trim_set_from = at_level E12 (word w.Trim ∷ mark m.OpenParen ∷ Lev E0 ∷ word w.From ∷ Lev E0 ∷ mark m.CloseParen ∷ [])
+    (elim [ Word a ∷ b ∷ v ∷ c ∷ vs ↦ trimmed_set_from (at a) None v vs | _ ↦ Wrong ])
+line trim_set = at_level E12 (word w.Trim ∷ mark m.OpenParen ∷ Lev E0 ∷ mark m.Comma ∷ Lev E0 ∷ mark m.CloseParen ∷ [])
+    (elim [ Word a ∷ b ∷ v ∷ c ∷ vs ↦ trimmed_set (at a) None v vs | _ ↦ Wrong ])
+line trim = at_level E12 (word w.Trim ∷ mark m.OpenParen ∷ Lev E0 ∷ mark m.CloseParen ∷ [])
+    (elim [ Word a ∷ b ∷ v ∷ c ∷ [] ↦ trimmed (at a) None v | _ ↦ Wrong ])
+line extract = at_level E12 (word w.Extract ∷ mark m.OpenParen ∷ Tok Fields ∷ word w.From ∷ Lev E0 ∷ mark m.CloseParen ∷ [])
+    (elim [ Word a ∷ b ∷ Word c ∷ d ∷ Tree x ∷ f ∷ [] ↦ Tree (e.Extract (at a) (at c) (name_of c) x) | _ ↦ Wrong ])
+line variadic = at_level Args (word w.Variadic ∷ Lev E0 ∷ []) (with_variadic (Given [] false))
+line one_arg = at_level Args (Lev E0 ∷ []) (with_arg (Given [] false))
+line first_arm = at_level Arms (word w.When ∷ Lev E0 ∷ word w.Then ∷ Lev E0 ∷ []) (with_arm (Cases []))
+line full_basic = at_level Full (Lev Basic ∷ []) alone
+line basic = at_level Basic (Lev Typename ∷ []) (elim [ Spelled p n ∷ [] ↦ Named (words p n modifier.None) | _ ↦ Wrong ])
+line basic_scaled = at_level Basic (Lev Typename ∷ mark m.OpenParen ∷ tok k.Whole ∷ mark m.Comma ∷ tok k.Whole ∷ mark m.CloseParen ∷ [])
+    (elim [ Spelled p n ∷ Word a ∷ Word b ∷ c ∷ Word d ∷ f ∷ [] ↦ Named (words p n (scaled (at a) b.kind d.kind)) | _ ↦ Wrong ])
+line basic_sized = at_level Basic (Lev Typename ∷ mark m.OpenParen ∷ tok k.Whole ∷ mark m.CloseParen ∷ [])
+    (elim [ Spelled p n ∷ Word a ∷ Word b ∷ c ∷ [] ↦ Named (words p n (sized (at a) b.kind)) | _ ↦ Wrong ])
+line plain_type = at_level Typename (Tok Plains ∷ []) (elim [ Word a ∷ [] ↦ Spelled (at a) (type_name a) | _ ↦ Wrong ])
+line double_type = at_level Typename (tok k.Double ∷ []) (elim [ Word a ∷ [] ↦ Spelled (at a) (type_name a) | _ ↦ Wrong ])
+line double_precision = at_level Typename (tok k.Double ∷ tok k.Precision ∷ [])
+    (elim [ Word a ∷ b ∷ [] ↦ Spelled (at a) name.DoublePrecision | _ ↦ Wrong ])
+line character_type = at_level Typename (tok k.Character ∷ []) (elim [ Word a ∷ [] ↦ Spelled (at a) (type_name a) | _ ↦ Wrong ])
+line character_varying = at_level Typename (tok k.Character ∷ tok k.Varying ∷ [])
+    (elim [ Word a ∷ b ∷ [] ↦ Spelled (at a) name.CharacterVarying | _ ↦ Wrong ])
+line moment_type = at_level Typename (Tok Moments ∷ []) (elim [ Word a ∷ [] ↦ Spelled (at a) (type_name a) | _ ↦ Wrong ])
+line moment_zoned = at_level Typename (Tok Moments ∷ Tok Zoned ∷ tok k.Time ∷ tok k.Zone ∷ [])
+    (elim [ Word a ∷ Word b ∷ c ∷ d ∷ [] ↦ Spelled (at a) (zoned b (moment_of a)) | _ ↦ Wrong ])
+
+abbrev pub level : Start → Level
+level x = (line x).level
+
+abbrev pub parts : Start → List Sym
+parts x = (line x).parts
+
+abbrev pub made : Start → List Value → Value
+made x = (line x).builds
+
+-- a line that begins with its own level: that level, the class of the token behind it, the other symbols,
+-- and what is built of the value before, and of the tokens and values behind it
+pub record TailLine : Type 0 where
+  pub level : Level
+  pub lead : Class
+  pub rest : List Sym
+  pub joins : Value → List Token → List Value → Value
+
+abbrev behind_level : Level → Class → List Sym → (Value → List Token → List Value → Value) → TailLine
+behind_level m a ss f = record { level = m; lead = a; rest = ss; joins = f }
+
+abbrev pub tail_line : Tail → TailLine
+tail_line union = behind_level Selects (Only (k.Word w.Union)) (word w.All ∷ word w.Select ∷ Lev Items ∷ [])
+    (λ v us vs. with_select v (union_alone vs))
+tail_line next_item = behind_level Items (Only (k.Mark m.Comma)) (Lev Item ∷ [])
+    (λ v us vs. with_item v (behind vs))
+tail_line next_row = behind_level Rows (Only (k.Mark m.Comma)) (mark m.OpenParen ∷ Lev Shown ∷ mark m.CloseParen ∷ [])
+    (λ v us vs. with_row v (behind vs))
+tail_line next_shown = behind_level Shown (Only (k.Mark m.Comma)) (Lev E0 ∷ [])
+    (λ v us vs. with_shown v (behind vs))
+tail_line or = behind_level E0 (Only (k.Word w.Or)) (Lev E1 ∷ [])
+    (λ v us vs. or_of v vs)
+tail_line and = behind_level E1 (Only (k.Word w.And)) (Lev E2 ∷ [])
+    (λ v us vs. and_of v vs)
+tail_line other_then = behind_level E6 (Only k.Other) (Lev E7 ∷ [])
+    (λ v us vs. other_of v vs)
+tail_line other_then_prefix = behind_level E6 (Only k.Other) (Lev P ∷ [])
+    (λ v us vs. other_of v vs)
+tail_line added = behind_level E7 (Only k.Sign) (Lev E8 ∷ [])
+    (λ v us vs. sum_of v vs)
+tail_line multiplied = behind_level E8 (Only k.Times) (Lev E9 ∷ [])
+    (λ v us vs. product_of v vs)
+tail_line raised = behind_level E9 (Only k.Power) (Lev E10 ∷ [])
+    (λ v us vs. power_of v vs)
+tail_line cast = behind_level E11 (Only (k.Mark m.DoubleColon)) (Lev Basic ∷ [])
+    (λ v us vs. cast_of v vs)
+tail_line empty_brackets = behind_level E11 (Only (k.Mark m.OpenBracket)) (mark m.CloseBracket ∷ [])
+    (λ v us vs. array_cast v)
+tail_line brackets = behind_level E11 (Only (k.Mark m.OpenBracket)) (Lev E0 ∷ mark m.CloseBracket ∷ [])
+    (λ v us vs. bracketed v (one_whole us) (opened vs))
+tail_line next_one = behind_level Args (Only (k.Mark m.Comma)) (Lev E0 ∷ [])
+    (λ v us vs. with_arg v (behind vs))
+tail_line next_variadic = behind_level Args (Only (k.Mark m.Comma)) (word w.Variadic ∷ Lev E0 ∷ [])
+    (λ v us vs. with_variadic v (behind vs))
+tail_line next_arm = behind_level Arms (Only (k.Word w.When)) (Lev E0 ∷ word w.Then ∷ Lev E0 ∷ [])
+    (λ v us vs. with_arm v vs)
+tail_line full_pair = behind_level Full (Only (k.Mark m.OpenBracket)) (mark m.CloseBracket ∷ [])
+    (λ v us vs. array_type v)
+tail_line full_sized_pair = behind_level Full (Only (k.Mark m.OpenBracket)) (tok k.Whole ∷ mark m.CloseBracket ∷ [])
+    (λ v us vs. array_type v)
+
+abbrev pub on : Tail → Level
+on x = (tail_line x).level
+
+abbrev pub lead : Tail → Class
+lead x = (tail_line x).lead
+
+abbrev pub rest : Tail → List Sym
+rest x = (tail_line x).rest
+
 abbrev pub joined : Tail → Value → List Token → List Value → Value
-joined union v us vs = with_select v (union_alone vs)
-joined next_item v us vs = with_item v (behind vs)
-joined next_row v us vs = with_row v (behind vs)
-joined next_shown v us vs = with_shown v (behind vs)
-joined or v us vs = or_of v vs
-joined and v us vs = and_of v vs
-joined other_then v us vs = other_of v vs
-joined other_then_prefix v us vs = other_of v vs
-joined added v us vs = sum_of v vs
-joined multiplied v us vs = product_of v vs
-joined raised v us vs = power_of v vs
-joined cast v us vs = cast_of v vs
-joined empty_brackets v us vs = array_cast v
-joined brackets v us vs = bracketed v (one_whole us) (opened vs)
-joined next_one v us vs = with_arg v (behind vs)
-joined next_variadic v us vs = with_variadic v (behind vs)
-joined next_arm v us vs = with_arm v vs
-joined full_pair v us vs = array_type v
-joined full_sized_pair v us vs = array_type v
+joined x = (tail_line x).joins
+
+-- what stands behind the level in its own line
+abbrev pub turn : Tail → List Sym
+turn x = Tok (lead x) ∷ rest x
+
+abbrev pub takes : Tail → Bool → Bool
+takes empty_brackets b = b
+takes next_one b = b
+takes next_variadic b = b
+takes _ b = true
+
+-- empty brackets stand behind a type alone, and nothing behind the argument of VARIADIC
+abbrev pub fits : Tail → Value → Bool
+fits x v = takes x (is_open v)

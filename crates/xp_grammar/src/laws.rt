@@ -5,8 +5,8 @@ ghost use Rattle.xp_grammar.specs.declared.statement.Statement.{Statement};
 ghost use Rattle.xp_grammar.specs.Reads.{Fault, IsStatement, read};
 ghost use Rattle.xp_grammar.specs.Table.{Level, Value, Stated};
 ghost use Rattle.xp_grammar.specs.declared.kind.Kind.{Kind};
-ghost use Rattle.xp_grammar.specs.Machine.{trie, tails, first};
-ghost use Rattle.xp_grammar.specs.Tries.{lines_of, turns_of, begins};
+ghost use Rattle.xp_grammar.specs.inner.Machine.{trie, tails, first};
+ghost use Rattle.xp_grammar.specs.inner.Tries.{lines_of, turns_of, begins};
 
 /// A list of tokens is at most one statement. `read` finds it where there is one, and finds nothing
 /// else; where there is none it names the first token with which no statement continues, by the

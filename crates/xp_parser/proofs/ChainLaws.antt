@@ -9,7 +9,7 @@ use Rattle.xp_grammar.specs.declared.ast.Ast.{Ast}
 use Rattle.xp_grammar.specs.Kinds.{kind, same, ahead}
 use Rattle.xp_grammar.specs.Table.{Value, Word, Tree, other_of, prefix_of}
 use Rattle.xp_grammar.specs.Table.{Level as l}
-use Rattle.xp_grammar.specs.Machine.{Outcome, Parser, and_then, ◌>>=◌, pure, expect, eat, taken, after, starting, first, onward, parse, more}
+use Rattle.xp_grammar.specs.inner.Machine.{Outcome, Parser, and_then, ◌>>=◌, pure, expect, eat, taken, after, starting, first, onward, parse, more}
 use Rattle.xp_grammar.proofs.Fronts.{left, if_left}
 use Rattle.xp_grammar.proofs.Turns.{parse_left, parse_less}
 use Rattle.xp_grammar.proofs.Straight.{reach, again, parse_straight, more_straight}

@@ -4,7 +4,7 @@ use Rattle.xp_token.specs.declared.token.Token.{Token}
 use Rattle.xp_grammar.specs.declared.ast.Ast.{Ast}
 use Rattle.xp_grammar.specs.Table.{Trees, Given, with_shown}
 use Rattle.xp_grammar.specs.Table.{Level as l}
-use Rattle.xp_grammar.specs.Machine.{◌>>=◌, parse, more}
+use Rattle.xp_grammar.specs.inner.Machine.{◌>>=◌, parse, more}
 use Rattle.xp_grammar.proofs.Straight.{reach, again, parse_straight, more_straight}
 use Rattle.xp_parser.specs.inner.Parts.{more_shown_part, args_part, more_args_part}
 

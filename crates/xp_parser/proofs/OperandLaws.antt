@@ -8,7 +8,7 @@ use Rattle.xp_grammar.specs.declared.kind.Class.TheVariants.{Only}
 use Rattle.xp_grammar.specs.Kinds.{kind, same, has}
 use Rattle.xp_grammar.specs.Table.{Value, Word, Tree, Casted, is_open, cast_of, array_cast, bracketed, one_whole}
 use Rattle.xp_grammar.specs.Table.{Level as l}
-use Rattle.xp_grammar.specs.Machine.{Outcome, Parser, and_then, ◌>>=◌, pure, expect, eat, taken, after, used, onward, parse, more}
+use Rattle.xp_grammar.specs.inner.Machine.{Outcome, Parser, and_then, ◌>>=◌, pure, expect, eat, taken, after, used, onward, parse, more}
 use Rattle.xp_grammar.proofs.Fronts.{left, map_left, then_left}
 use Rattle.xp_grammar.proofs.Fix.{expect_left}
 use Rattle.xp_grammar.proofs.Turns.{itself, parse_left, parse_takes, expect_left_is}

@@ -8,7 +8,7 @@ use Rattle.xp_grammar.specs.declared.ast.Arm.{Arm}
 use Rattle.xp_grammar.specs.Kinds.{same, ahead}
 use Rattle.xp_grammar.specs.Table.{Cases}
 use Rattle.xp_grammar.specs.Table.{Level as l}
-use Rattle.xp_grammar.specs.Machine.{◌>>=◌, expect, first, onward, parse, more}
+use Rattle.xp_grammar.specs.inner.Machine.{◌>>=◌, expect, first, onward, parse, more}
 use Rattle.xp_grammar.proofs.Straight.{reach, again, parse_straight, more_straight}
 use Rattle.xp_parser.specs.inner.Parts.{arm_then, more_arms_part, end_then, case_then, call_then, named_then, paren_then, cast_then, selection_then, nullif_then, array_then, position_then, extract_then, listed_then, begun_then, ended_then, substring_then, source_then, set_source_then, trimmed_then, sided_then, trim_then, forms_part, worded_part, primary_part}
 

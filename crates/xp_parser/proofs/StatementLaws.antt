@@ -10,7 +10,7 @@ use Rattle.xp_grammar.specs.declared.statement.SelectArm.{SelectArm}
 use Rattle.xp_grammar.specs.declared.statement.Statement.TheVariants as stating
 use Rattle.xp_grammar.specs.Table.{Value, Stated, Labels, Lists, Selected, selected, with_item}
 use Rattle.xp_grammar.specs.Table.{Level as l}
-use Rattle.xp_grammar.specs.Machine.{◌>>=◌, expect, onward, parse, more}
+use Rattle.xp_grammar.specs.inner.Machine.{◌>>=◌, expect, onward, parse, more}
 use Rattle.xp_grammar.specs.Reads.{to_end, read}
 use Rattle.xp_grammar.proofs.Straight.{reach, again, parse_straight, more_straight}
 use Rattle.xp_parser.specs.inner.StatementParts.{item_part, more_items_part, select_then, more_selects_part, rows_part, more_rows_part, store_then, explain_then, statement_part}

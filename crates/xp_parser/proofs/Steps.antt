@@ -8,7 +8,7 @@ use Rattle.xp_grammar.specs.declared.kind.Kind.{Kind}
 use Rattle.xp_grammar.specs.declared.kind.Kind.TheVariants as k
 use Rattle.xp_grammar.specs.Kinds.{kind, has, same}
 use Rattle.xp_grammar.specs.Table.{Level, Value, Word, Tree}
-use Rattle.xp_grammar.specs.Machine.{Outcome, Parser, and_then, ◌>>=◌, pure, expect, eat, taken, after, parse, more}
+use Rattle.xp_grammar.specs.inner.Machine.{Outcome, Parser, and_then, ◌>>=◌, pure, expect, eat, taken, after, parse, more}
 use Rattle.xp_parser.specs.inner.Reading.{Eats}
 
 -- a token that may be there or not, and makes no difference

@@ -2,7 +2,7 @@
 use Rattle.std.proofs.Common.{◌≡◌, List}
 use Rattle.xp_token.specs.declared.token.Token.{Token}
 use Rattle.xp_grammar.specs.Table.{Level as l}
-use Rattle.xp_grammar.specs.Machine.{onward, parse}
+use Rattle.xp_grammar.specs.inner.Machine.{onward, parse}
 use Rattle.xp_grammar.proofs.Straight.{reach, parse_straight}
 use Rattle.xp_parser.specs.inner.Parts.{not_part, is_end, is_then, test_then, test_part, compared_part, between_then, in_then, like_then, not_range_then, range_then, range_part}
 

@@ -4,7 +4,7 @@ use Rattle.xp_token.specs.declared.token.Token.{Token}
 use Rattle.xp_grammar.specs.declared.types.TypeWords.{TypeWords}
 use Rattle.xp_grammar.specs.Table.{Named}
 use Rattle.xp_grammar.specs.Table.{Level as l}
-use Rattle.xp_grammar.specs.Machine.{◌>>=◌, onward, parse, more}
+use Rattle.xp_grammar.specs.inner.Machine.{◌>>=◌, onward, parse, more}
 use Rattle.xp_grammar.proofs.Straight.{reach, again, parse_straight, more_straight}
 use Rattle.xp_parser.specs.inner.Parts.{double_then, character_then, moment_then, typename_part, modifier_then, basic_part, pair_then, brackets_part}
 

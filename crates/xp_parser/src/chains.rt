@@ -1,7 +1,7 @@
 //! Operators that group from the left (manual 4.1.6).
 ghost use Rattle.std.specs.Prelude.{◌≡◌, ◌≤◌, [], ◌∷◌, length, IfOk};
-ghost use Rattle.xp_grammar.specs.Machine.{parse};
-ghost use Rattle.xp_grammar.specs.Machine as machine;
+ghost use Rattle.xp_grammar.specs.inner.Machine.{parse};
+ghost use Rattle.xp_grammar.specs.inner.Machine as machine;
 ghost use Rattle.xp_grammar.specs.Table as table;
 ghost use Rattle.xp_grammar.specs.Table.{Level, Tree};
 ghost use Rattle.xp_parser.specs.inner.Nests.{Nests};

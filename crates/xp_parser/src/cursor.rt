@@ -1,7 +1,7 @@
 //! The tokens that are still to be read.
 ghost use Rattle.std.specs.Prelude.{◌≡◌, ◌<◌, length, IfOk, MatchOption};
 ghost use Rattle.xp_grammar.specs.Kinds.{ahead, same};
-ghost use Rattle.xp_grammar.specs.Machine as machine;
+ghost use Rattle.xp_grammar.specs.inner.Machine as machine;
 ghost use Rattle.xp_parser.specs.inner.Reading.{Eats, Reads, seen};
 
 use crate::parse_error::ParseError;

@@ -1,7 +1,7 @@
 //! What reads by the grammar. The function for an expression within another is a parameter, so that
 //! each rule is proved by itself.
 ghost use Rattle.std.specs.Prelude.{◌≤◌, ◌<◌, length, IfOk};
-ghost use Rattle.xp_grammar.specs.Machine.{parse};
+ghost use Rattle.xp_grammar.specs.inner.Machine.{parse};
 ghost use Rattle.xp_grammar.specs.Table.{Level, Tree};
 ghost use Rattle.xp_parser.specs.inner.Nests.{Nests};
 ghost use Rattle.xp_parser.specs.inner.Parts as part;

@@ -1,6 +1,6 @@
 //! Expressions with commas between, and the arguments of calls (manual 4.2.6 and 4.3).
 ghost use Rattle.std.specs.Prelude.{◌<◌, length, IfOk};
-ghost use Rattle.xp_grammar.specs.Machine.{parse};
+ghost use Rattle.xp_grammar.specs.inner.Machine.{parse};
 ghost use Rattle.xp_grammar.specs.Table.{Level, Trees};
 ghost use Rattle.xp_parser.specs.inner.Nests.{Nests};
 ghost use Rattle.xp_parser.specs.inner.Parts as part;

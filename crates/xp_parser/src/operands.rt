@@ -1,6 +1,6 @@
 //! Signs, casts and subscripts (manual 4.2.3, 4.2.9 and 4.1.6).
 ghost use Rattle.std.specs.Prelude.{◌≡◌, ◌≤◌, ◌<◌, length, IfOk};
-ghost use Rattle.xp_grammar.specs.Machine.{parse};
+ghost use Rattle.xp_grammar.specs.inner.Machine.{parse};
 ghost use Rattle.xp_grammar.specs.Table.{Level, Tree};
 ghost use Rattle.xp_grammar.specs.Table as table;
 ghost use Rattle.xp_parser.specs.inner.Nests.{Nests};

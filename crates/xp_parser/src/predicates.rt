@@ -1,6 +1,6 @@
 //! NOT, tests, comparisons and ranges (manual 9.1, 9.2, 9.7.1 and 9.24.1).
 ghost use Rattle.std.specs.Prelude.{◌≡◌, ◌≤◌, length, IfOk};
-ghost use Rattle.xp_grammar.specs.Machine.{parse};
+ghost use Rattle.xp_grammar.specs.inner.Machine.{parse};
 ghost use Rattle.xp_grammar.specs.Table.{Level, Tree, at};
 ghost use Rattle.xp_parser.specs.inner.Nests.{Nests};
 ghost use Rattle.xp_parser.specs.inner.Parts as part;

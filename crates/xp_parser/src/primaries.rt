@@ -1,6 +1,6 @@
 //! Constants, columns, calls, parentheses and the forms of their own (manual 4.2).
 ghost use Rattle.std.specs.Prelude.{◌≡◌, ◌≤◌, ◌<◌, length, IfOk};
-ghost use Rattle.xp_grammar.specs.Machine.{parse};
+ghost use Rattle.xp_grammar.specs.inner.Machine.{parse};
 ghost use Rattle.xp_grammar.specs.Table.{Level, Tree, at, name_of, one_word};
 ghost use Rattle.xp_parser.specs.inner.Nests.{Nests};
 ghost use Rattle.xp_parser.specs.inner.Parts as part;

@@ -1,6 +1,6 @@
 //! Statements, the items of SELECT and the lists of VALUES (manual 7.3, 7.4 and 7.7).
 ghost use Rattle.std.specs.Prelude.{◌≡◌, ◌≤◌, ◌<◌, length, IfOk};
-ghost use Rattle.xp_grammar.specs.Machine.{parse};
+ghost use Rattle.xp_grammar.specs.inner.Machine.{parse};
 ghost use Rattle.xp_grammar.specs.Table.{Level, Labelled, Labels, Lists, Selected, Stated, selected};
 ghost use Rattle.xp_parser.specs.inner.Nests.{Nests};
 ghost use Rattle.xp_parser.specs.inner.Reading.{Reads};

@@ -1,6 +1,6 @@
 //! The names of types (manual 4.1.2.7 and 8).
 ghost use Rattle.std.specs.Prelude.{◌≡◌, IfOk};
-ghost use Rattle.xp_grammar.specs.Machine.{parse};
+ghost use Rattle.xp_grammar.specs.inner.Machine.{parse};
 ghost use Rattle.xp_grammar.specs.Table.{Level, Named, Spelled, at, type_name};
 ghost use Rattle.xp_parser.specs.inner.Parts as part;
 ghost use Rattle.xp_parser.specs.inner.Reading.{Reads};

@@ -7,7 +7,7 @@ use Rattle.xp_lexer.specs.inner.Cutting.{name, decimals, fraction, sign, exponen
 use Rattle.xp_lexer.specs.Meaning.{number_of, spelled, is_prefix}
 use Rattle.xp_token.specs.Words.{word_named}
 use Rattle.xp_token.specs.Held.{dec_of}
-use Rattle.xp_grammar.specs.Machine.{first, symbol, walk, choose, onward, run, parse}
+use Rattle.xp_grammar.specs.inner.Machine.{first, symbol, walk, choose, onward, run, parse}
 use Rattle.xp_grammar.specs.Reads.{read}
 use Rattle.xp_grammar.specs.declared.ast.Ast.{Ast}
 use Rattle.xp_grammar.specs.declared.ast.Ast.TheVariants as e

@@ -16,7 +16,7 @@ use Rattle.xp_grammar.specs.Kinds.{same, ahead}
 use Rattle.xp_grammar.specs.Table.{Level, Value, Word, Tree, Casted, Spelled, Named, is_open, made, array_of, at, closed, is_of, distinct_of, between_of, in_of, like_of, prefix_of, or_of, and_of, other_of, sum_of, product_of, power_of, cast_of, array_cast, bracketed, with_shown, with_arg, with_variadic, with_arm, Trees, Given, Cases, call_of, case_of, operand_case, substring_alone, substring_listed, substring_begun, substring_ended, trimmed_from, trimmed_set_from, trimmed, trimmed_set, side_of, name_of}
 use Rattle.xp_grammar.specs.Table.{Level as l}
 use Rattle.xp_grammar.specs.Table.{Start as s}
-use Rattle.xp_grammar.specs.Machine.{Parser, and_then, ◌>>=◌, pure, expect, after, starting, parse, more}
+use Rattle.xp_grammar.specs.inner.Machine.{Parser, and_then, ◌>>=◌, pure, expect, after, starting, parse, more}
 use Rattle.xp_parser.specs.declared.chains.Chain.{Chain}
 use Rattle.xp_parser.specs.declared.chains.Chain.TheVariants as chains
 use Rattle.xp_parser.specs.declared.grammar.Nested.{Nested}

@@ -4,7 +4,7 @@ use denote.Ref.{Bor}
 use Rattle.xp_token.specs.declared.token.Token.{Token}
 use Rattle.xp_grammar.specs.declared.statement.Statement.{Statement}
 use Rattle.xp_grammar.specs.Table.{Value, Stated}
-use Rattle.xp_grammar.specs.Machine.{Outcome}
+use Rattle.xp_grammar.specs.inner.Machine.{Outcome}
 use Rattle.xp_parser.specs.declared.parse_error.ParseError.{ParseError}
 use Rattle.xp_parser.specs.declared.parse_error.ParseError.TheVariants.{Memory, Syntax}
 

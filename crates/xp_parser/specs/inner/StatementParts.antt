@@ -11,7 +11,7 @@ use Rattle.xp_grammar.specs.declared.statement.SelectArm.{SelectArm}
 use Rattle.xp_grammar.specs.Table.{Value, Word, Labels, Lists, Selected, made, with_item, with_row, with_select}
 use Rattle.xp_grammar.specs.Table.{Level as l}
 use Rattle.xp_grammar.specs.Table.{Start as s}
-use Rattle.xp_grammar.specs.Machine.{Parser, ◌>>=◌, pure, expect, after, parse, more}
+use Rattle.xp_grammar.specs.inner.Machine.{Parser, ◌>>=◌, pure, expect, after, parse, more}
 
 unfoldable pub item_part : Parser Value
 item_part = parse l.E0 >>= (λ v. after (Only (k.Word word.As)) (λ a. expect Names >>= (λ n. pure (made s.item_as (v ∷ Word a ∷ Word n ∷ [])))) (pure (made s.item (v ∷ []))))

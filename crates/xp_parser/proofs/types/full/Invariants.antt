@@ -1,5 +1,5 @@
 use Rattle.std.proofs.Common.{◌≡◌, length}
-use Rattle.xp_grammar.specs.Machine.{parse, more}
+use Rattle.xp_grammar.specs.inner.Machine.{parse, more}
 use Rattle.xp_grammar.specs.Table.{Level, Named}
 use Rattle.xp_parser.proofs.types.full.Given as goal
 

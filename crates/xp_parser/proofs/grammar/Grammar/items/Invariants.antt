@@ -1,5 +1,5 @@
 use Rattle.std.proofs.Common.{◌≡◌, ◌<◌, length}
-use Rattle.xp_grammar.specs.Machine.{parse, more}
+use Rattle.xp_grammar.specs.inner.Machine.{parse, more}
 use Rattle.xp_grammar.specs.Table.{Level, Labels}
 use Rattle.xp_parser.proofs.grammar.Grammar.items.Given as goal
 

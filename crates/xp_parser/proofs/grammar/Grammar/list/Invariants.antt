@@ -1,5 +1,5 @@
 use Rattle.std.proofs.Common.{◌≡◌, ◌<◌, length}
-use Rattle.xp_grammar.specs.Machine.{parse, more}
+use Rattle.xp_grammar.specs.inner.Machine.{parse, more}
 use Rattle.xp_grammar.specs.Table.{Level, Trees}
 use Rattle.xp_parser.proofs.grammar.Grammar.list.Given as goal
 

@@ -1,5 +1,5 @@
 use Rattle.std.proofs.Common.{◌≡◌, ◌≤◌, length}
-use Rattle.xp_grammar.specs.Machine.{more}
+use Rattle.xp_grammar.specs.inner.Machine.{more}
 use Rattle.xp_grammar.specs.Table.{Tree}
 use Rattle.xp_parser.specs.inner.Parts.{chain_level}
 use Rattle.xp_parser.proofs.grammar.Grammar.more.Given as goal

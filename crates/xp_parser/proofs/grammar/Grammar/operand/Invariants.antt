@@ -1,5 +1,5 @@
 use Rattle.std.proofs.Common.{◌≡◌, ◌<◌, length}
-use Rattle.xp_grammar.specs.Machine.{parse, more}
+use Rattle.xp_grammar.specs.inner.Machine.{parse, more}
 use Rattle.xp_grammar.specs.Table.{Level}
 use Rattle.xp_parser.specs.inner.Parts.{operand as read_operand}
 use Rattle.xp_parser.proofs.grammar.Grammar.operand.Given as goal

@@ -1,5 +1,5 @@
 use Rattle.std.proofs.Common.{◌≡◌, ◌≤◌, length}
-use Rattle.xp_grammar.specs.Machine.{parse}
+use Rattle.xp_grammar.specs.inner.Machine.{parse}
 use Rattle.xp_grammar.specs.Table.{Level}
 use Rattle.xp_parser.specs.inner.StatementParts.{rows_part}
 use Rattle.xp_parser.proofs.grammar.Grammar.rows.Given as goal

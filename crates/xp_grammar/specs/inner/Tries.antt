@@ -7,7 +7,7 @@ use Rattle.xp_grammar.specs.Table.{Level, Sym, Tok, Lev, Start, Tail, level, par
 use Rattle.xp_grammar.specs.Table.{Level as l}
 use Rattle.xp_grammar.specs.Table.{Start as s}
 use Rattle.xp_grammar.specs.Table.{Tail as c}
-use Rattle.xp_grammar.specs.Machine.{Node, Edges, node, stop, edge, ends, to}
+use Rattle.xp_grammar.specs.inner.Machine.{Node, Edges, node, stop, edge, ends, to}
 
 -- the lines, in the order in which they are tried
 abbrev pub starts : List Start

@@ -234,9 +234,3 @@ parse l ts = run (suc (15 * length ts + rank l)) l ts
 -- how a level goes on after a value of it
 unfoldable pub more : Level → Value → Parser Value
 more l v ts = onward parse (suc (length ts)) l v ts
-
--- the symbols one by one
-unfoldable pub seq : List Sym → Parser (List Value)
-seq [] = pure []
-seq (Tok c ∷ ss) = expect c >>= (λ t. seq ss >>= (λ vs. pure (Word t ∷ vs)))
-seq (Lev l ∷ ss) = parse l >>= (λ v. seq ss >>= (λ vs. pure (v ∷ vs)))
