@@ -10,11 +10,7 @@ use xp_base::{Byts, LoadFault};
 const CHUNK: usize = 4096;
 
 /// Reads to the end, or until there is a byte more than the limit. `Failed` is a read that failed.
-pub fn read_within<R: Read>(
-    alloc: Global,
-    reader: &mut R,
-    limit: u64,
-) -> Result<Byts, LoadFault>
+pub fn read_within<R: Read>(alloc: Global, reader: &mut R, limit: u64) -> Result<Byts, LoadFault>
     ensures answer { AnswersReading (R.remaining reader.old) limit result }
     ensures budget { TakesAtMost (R.remaining reader.old) (R.remaining reader.new) (limit + 1) }
 {
