@@ -1,6 +1,7 @@
 pub mod ChainLaws
 pub mod Deep
 pub mod Ended
+pub mod Formed
 pub mod ListLaws
 pub mod OperandLaws
 pub mod PrimaryLaws

@@ -1,3 +1,4 @@
 pub mod Depth
 pub mod Parses
+pub mod WellFormed
 pub mod inner

@@ -1,7 +1,10 @@
 //! A list of tokens as a statement.
-ghost use Rattle.std.specs.Prelude.{◌≡◌, ◌+◌, ◌-◌, ◌≤◌, length, true};
+ghost use Rattle.std.specs.Prelude.{◌≡◌, ◌+◌, ◌-◌, ◌≤◌, length, true, IfOk};
 ghost use Rattle.xp_grammar.specs.Reads.{read};
+ghost use Rattle.xp_token.specs.Ended.{are_plain};
+ghost use Rattle.xp_token.specs.Lexemes.{all_placed};
 ghost use Rattle.xp_parser.specs.Parses as spec;
+ghost use Rattle.xp_parser.specs.WellFormed.{is_well_formed};
 
 use crate::depth::first_deep;
 use crate::fault::ParseFault;
@@ -97,6 +100,8 @@ pub fn parse(alloc: Global, tokens: &Tokens) -> Result<Statement, ParseFault>
     ensures only { (answer : spec.Answer) → spec.IsAnswer tokens.now answer → spec.Answers result answer }
     // The answer is told by a function of the tokens.
     ensures value { spec.Answers result (spec.parsed tokens.now) }
+    // Of plain numbers comes a well-formed statement: only arguments of a call and elements of an array may be none.
+    ensures formed { IfOk result (λ s. are_plain (all_placed tokens.now) ≡ true → is_well_formed s ≡ true) }
 {
     answer(alloc, tokens.as_slice())
 }

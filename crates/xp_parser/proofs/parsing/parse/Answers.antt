@@ -1,3 +1,4 @@
+use Rattle.xp_parser.proofs.Formed.{formed_of}
 use Rattle.xp_parser.proofs.Settled.{right_of, only_of}
 use Rattle.xp_parser.proofs.parsing.parse.Goals as goal
 
@@ -6,3 +7,6 @@ returns-clause-right c = right_of c.args.tokens.now c.answer.result (rw c.as_sli
 
 pub returns-clause-only : goal.returns-clause-only
 returns-clause-only c = only_of c.args.tokens.now c.answer.result (rw c.as_slice.ensures at c.answer.ensures)
+
+pub returns-clause-formed : goal.returns-clause-formed
+returns-clause-formed c = formed_of c.args.tokens.now c.answer.result (rw c.as_slice.ensures at c.answer.ensures)
