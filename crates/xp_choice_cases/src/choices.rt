@@ -1,5 +1,5 @@
 //! What is answered for the choice between two candidates by what they declare.
-use crate::types::types_named;
+use crate::types::{MOST, types_named};
 use anyhow::{Result, bail, ensure};
 use std::alloc::Global;
 use xp_catalog::Catalog;
@@ -43,7 +43,7 @@ pub fn choose_answer(alloc: Global, c: &Catalog, text: &str) -> Result<String> {
     let (second, second_known) = candidate_named(alloc, c, second)?;
     let (third, third_known) = candidate_named(alloc, c, third)?;
     let count = inputs.as_slice().len();
-    ensure!(count <= 100, "too many inputs");
+    ensure!(count <= MOST, "too many inputs");
     ensure!(first.as_slice().len() == count, "as many types are wanted");
     ensure!(second.as_slice().len() == count, "as many types are wanted");
     ensure!(third.as_slice().len() == count, "as many types are wanted");

@@ -2,7 +2,7 @@
 ghost use Rattle.std.specs.Prelude.{◌<◌, length};
 ghost use Rattle.xp_func.specs.Picked.{IsKnownPick};
 
-use crate::types::{around_of, name_of, put_names, types_named};
+use crate::types::{MOST, around_of, name_of, put_names, types_named};
 use anyhow::{Result, ensure};
 use std::alloc::Global;
 use xp_base::RowNo;
@@ -75,7 +75,7 @@ pub fn function_answer(alloc: Global, c: &Catalog, text: &str) -> Result<String>
         None => (name, false),
     };
     let inputs = types_named(alloc, c, inputs)?;
-    ensure!(inputs.len() <= 100, "too many arguments");
+    ensure!(inputs.len() <= MOST, "too many arguments");
     let mut out = String::new(alloc);
     match pick_function(alloc, c, name, &inputs, variadic) {
         Ok(picked) => put_picked(&mut out, c, picked)?,

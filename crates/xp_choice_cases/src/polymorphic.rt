@@ -1,6 +1,6 @@
 //! What is answered for polymorphic types.
 use crate::paths::yes_or_no;
-use crate::types::{around_of, name_of, named, put_names, types_named};
+use crate::types::{MOST, around_of, name_of, named, put_names, types_named};
 use anyhow::{Result, bail, ensure};
 use std::alloc::Global;
 use xp_catalog::Catalog;
@@ -13,7 +13,7 @@ pub fn accepts_answer(alloc: Global, c: &Catalog, text: &str) -> Result<String> 
     let declared = types_named(alloc, c, declared)?;
     let inputs = types_named(alloc, c, inputs)?;
     ensure!(declared.len() == inputs.len(), "as many types are wanted");
-    ensure!(inputs.len() <= 100, "too many types");
+    ensure!(inputs.len() <= MOST, "too many types");
     Ok(yes_or_no(alloc, accepts(c, &declared, &inputs))?)
 }
 
@@ -27,9 +27,9 @@ pub fn bind_answer(alloc: Global, c: &Catalog, text: &str) -> Result<String> {
     let inputs = types_named(alloc, c, inputs)?;
     let returned = named(c, returned)?;
     ensure!(declared.len() == inputs.len(), "as many types are wanted");
-    ensure!(inputs.len() <= 100, "too many types");
+    ensure!(inputs.len() <= MOST, "too many types");
     ensure!(accepts(c, &declared, &inputs), "the inputs aren't accepted");
-    let mut room = [UNKNOWN; 100];
+    let mut room = [UNKNOWN; MOST];
     let types = &mut room[..inputs.len()];
     match bind(c, &declared, returned, &inputs, types) {
         Binding::Concrete(ty) => {

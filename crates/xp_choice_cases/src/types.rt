@@ -4,9 +4,12 @@ ghost use Rattle.xp_types.specs.Within.{AreTypes, IsType};
 
 use anyhow::{Result, bail, ensure};
 use std::alloc::Global;
-use xp_base::TypeNo;
+use xp_base::{ARGUMENT_LIMIT, TypeNo};
 use xp_catalog::Catalog;
 use xp_types::UNKNOWN;
+
+/// The most inputs of a case.
+pub const MOST: usize = ARGUMENT_LIMIT as usize;
 
 /// The type of that name, `unknown` among them.
 pub fn named(c: &Catalog, name: &str) -> Result<TypeNo>
