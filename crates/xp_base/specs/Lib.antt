@@ -1,4 +1,5 @@
 pub mod Codes
+pub mod FromLeft
 pub mod Growth
 pub mod Operators
 pub mod OrMemory

@@ -6,7 +6,7 @@ use Rattle.std.specs.Option.{ForSome}
 use Rattle.std.proofs.lemmas.Bool.{or_left, or_right}
 use Rattle.std.proofs.lemmas.List.Elements.{All-append, All-cons, All-nil}
 use Rattle.std.proofs.lemmas.List.Folds.{list_any-append}
-use Rattle.xp_poly.proofs.Lists.{rest_at}
+use Rattle.xp_base.proofs.Lists.{rest_at}
 use Rattle.xp_candidates.specs.Forms.{forms_from}
 use Rattle.xp_candidates.specs.declared.candidate.Candidate.{Candidate}
 

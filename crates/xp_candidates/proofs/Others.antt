@@ -1,7 +1,6 @@
 -- Functions and operators are nothing to the choice, once the candidates are listed.
-use Rattle.std.proofs.Common.{◌≡◌, ℕ, List, [], ◌∷◌, Bool, ◌&&◌, ◌||◌, not, cond, map, refl, ◌∙◌, ap, Option, Some, None, Ok, Err}
+use Rattle.std.proofs.Common.{◌≡◌, List, [], ◌∷◌, Bool, ◌&&◌, ◌||◌, not, cond, map, refl, ◌∙◌, ap, Option, Some, None, Ok, Err}
 use Rattle.std.specs.Prelude.{filter, zip}
-use Rattle.std.specs.List.{All}
 use Rattle.xp_base.specs.declared.numbers.TypeNo.{TypeNo}
 use Rattle.xp_catalog.specs.declared.rows.FuncRow.{FuncRow}
 use Rattle.xp_catalog.specs.declared.rows.OperRow.{OperRow}
@@ -9,7 +8,7 @@ use Rattle.xp_catalog.specs.Contents.{Contents}
 use Rattle.xp_catalog.specs.Rules.{last_of}
 use Rattle.xp_types.proofs.Others.{with_calls}
 use Rattle.xp_overload.specs.Categories.{of_category}
-use Rattle.xp_overload.specs.Choosing.{as_known_type, or_all_unless_one}
+use Rattle.xp_overload.specs.Choosing.{or_all_unless_one}
 use Rattle.xp_overload.specs.Matches.{most_exact, most_preferred}
 use Rattle.xp_poly.specs.Bound.{bound, concrete_types}
 use Rattle.xp_poly.proofs.Others.{accepts-same, bound-same, concrete_types-same}

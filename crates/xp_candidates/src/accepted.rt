@@ -2,6 +2,7 @@
 ghost use Rattle.std.specs.Prelude.{◌≡◌, ◌<◌, ◌≤◌, IfOk, false, length, map};
 ghost use Rattle.std.specs.List.{All};
 ghost use Rattle.std.specs.Option.{ForSome};
+ghost use Rattle.xp_base.specs.declared.limits.TheConstants.{ARGUMENT_LIMIT};
 ghost use Rattle.xp_types.specs.Within.{AreTypes};
 ghost use Rattle.xp_catalog.specs.Rules.{last_of};
 ghost use Rattle.xp_poly.specs.Acceptance.{accepts};
@@ -43,7 +44,7 @@ fn accepts_variadic_any(c: &Catalog, declared: &[TypeNo], inputs: &[TypeNo]) -> 
 fn takes(c: &Catalog, candidate: &Candidate, inputs: &[TypeNo], variadic: bool) -> bool
     requires candidate { IsCandidate c.now (length inputs.now) candidate.now }
     requires inputs { AreTypes c.now inputs.now }
-    requires room { length inputs.now ≤ 100 }
+    requires room { length inputs.now ≤ ARGUMENT_LIMIT }
     ensures { result ≡ takes c.now variadic inputs.now candidate.now }
 {
     let declared = candidate.declared.as_slice();
@@ -60,7 +61,7 @@ pub fn mark_taking(
 ) -> Result<Vec<bool>, AllocError>
     requires candidates { All (IsCandidate c.now (length inputs.now)) candidates.now }
     requires inputs { AreTypes c.now inputs.now }
-    requires room { length inputs.now ≤ 100 }
+    requires room { length inputs.now ≤ ARGUMENT_LIMIT }
     ensures { IfOk result (λ marks. marks.items ≡ map (takes c.now variadic inputs.now) candidates.now) }
 {
     let mut marks = Vec::new(alloc);
@@ -79,7 +80,7 @@ fn mark_accepting(
 ) -> Result<Vec<bool>, AllocError>
     requires candidates { All (IsCandidate c.now (length types.now)) candidates.now }
     requires types { AreTypes c.now types.now }
-    requires room { length types.now ≤ 100 }
+    requires room { length types.now ≤ ARGUMENT_LIMIT }
     ensures { IfOk result (λ marks. marks.items ≡ map (λ candidate. accepts c.now candidate.declared types.now) candidates.now) }
 {
     let mut marks = Vec::new(alloc);
@@ -110,7 +111,7 @@ pub fn mark_taking_as(
 ) -> Result<Vec<bool>, AllocError>
     requires candidates { All (IsCandidate c.now (length inputs.now)) candidates.now }
     requires inputs { AreTypes c.now inputs.now }
-    requires room { length inputs.now ≤ 100 }
+    requires room { length inputs.now ≤ ARGUMENT_LIMIT }
     requires known { ForSome known (λ type. type.0 < length c.now.types) }
     ensures { IfOk result (λ marks. marks.items ≡ map (takes_as c.now known inputs.now) candidates.now) }
 {

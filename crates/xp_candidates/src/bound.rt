@@ -1,6 +1,7 @@
 //! Whether the types to which a candidate's polymorphic types are bound are there.
 ghost use Rattle.std.specs.Prelude.{◌≡◌, ◌<◌, ◌≤◌, length, true};
 ghost use Rattle.std.specs.List.{list_all};
+ghost use Rattle.xp_base.specs.declared.limits.TheConstants.{ARGUMENT_LIMIT};
 ghost use Rattle.xp_types.specs.Within.{AreTypes};
 ghost use Rattle.xp_poly.specs.Acceptance.{accepts};
 ghost use Rattle.xp_candidates.specs.Accepted.{IsCandidate};
@@ -70,7 +71,7 @@ fn are_there(c: &Catalog, candidate: &Candidate, result_type: TypeNo, types: &[T
 pub fn binds(c: &Catalog, candidate: &Candidate, inputs: &[TypeNo]) -> bool
     requires candidate { IsCandidate c.now (length inputs.now) candidate.now }
     requires inputs { AreTypes c.now inputs.now }
-    requires room { length inputs.now ≤ 100 }
+    requires room { length inputs.now ≤ ARGUMENT_LIMIT }
     requires accepted { accepts c.now candidate.now.declared inputs.now ≡ true }
     ensures { result ≡ binds c.now inputs.now candidate.now }
 {

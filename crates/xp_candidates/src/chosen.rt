@@ -1,6 +1,7 @@
 //! The steps of the choice in their order.
 ghost use Rattle.std.specs.Prelude.{◌≡◌, ◌<◌, ◌≤◌, IfOk, OnOk, length, true};
 ghost use Rattle.std.specs.List.{All, list_any};
+ghost use Rattle.xp_base.specs.declared.limits.TheConstants.{ARGUMENT_LIMIT};
 ghost use Rattle.xp_types.specs.Within.{AreTypes};
 ghost use Rattle.xp_overload.specs.Places.{kept};
 ghost use Rattle.xp_candidates.specs.Known.{bases};
@@ -29,7 +30,7 @@ fn narrow(
 ) -> Result<(), AllocError>
     requires candidates { All (IsCandidate c.now (length inputs.now)) candidates.now }
     requires inputs { AreTypes c.now inputs.now }
-    requires room { length inputs.now ≤ 100 }
+    requires room { length inputs.now ≤ ARGUMENT_LIMIT }
     requires lengths { length keep.old ≡ length candidates.now }
     requires several { 2 ≤ length (kept keep.old) }
     ensures { OnOk result (those candidates.now (kept keep.new) ≡ narrowed c.now inputs.now (those candidates.now (kept keep.old))) }
@@ -51,7 +52,7 @@ fn narrow_several(
 ) -> Result<(), AllocError>
     requires candidates { All (IsCandidate c.now (length inputs.now)) candidates.now }
     requires inputs { AreTypes c.now inputs.now }
-    requires room { length inputs.now ≤ 100 }
+    requires room { length inputs.now ≤ ARGUMENT_LIMIT }
     requires lengths { length keep.old ≡ length candidates.now }
     ensures { OnOk result (those candidates.now (kept keep.new) ≡ narrowed c.now (bases c.now inputs.now) (those candidates.now (kept keep.old))) }
 {
@@ -74,7 +75,7 @@ fn mark_remaining(
 ) -> Result<Vec<bool>, AllocError>
     requires candidates { All (IsCandidate c.now (length inputs.now)) candidates.now }
     requires inputs { AreTypes c.now inputs.now }
-    requires room { length inputs.now ≤ 100 }
+    requires room { length inputs.now ≤ ARGUMENT_LIMIT }
     ensures value { IfOk result (λ keep. those candidates.now (kept keep.items) ≡ remaining c.now variadic inputs.now candidates.now) }
     ensures length { IfOk result (λ keep. length keep.items ≡ length candidates.now) }
 {
@@ -92,7 +93,7 @@ fn outcome(
 ) -> Result<Picked, Pick>
     requires candidates { All (IsCandidate c.now (length inputs.now)) candidates.now }
     requires inputs { AreTypes c.now inputs.now }
-    requires room { length inputs.now ≤ 100 }
+    requires room { length inputs.now ≤ ARGUMENT_LIMIT }
     requires within { IsWithin (length candidates.now) marked }
     requires accepted { AcceptsOne c.now inputs.now candidates.now marked }
     ensures { result ≡ outcome_at c.now inputs.now candidates.now marked }
@@ -127,7 +128,7 @@ pub fn choose_candidate(
 ) -> Result<Picked, Pick>
     requires candidates { All (IsCandidate c.now (length inputs.now)) candidates.now }
     requires inputs { AreTypes c.now inputs.now }
-    requires room { length inputs.now ≤ 100 }
+    requires room { length inputs.now ≤ ARGUMENT_LIMIT }
     ensures value { Answers (chosen c.now variadic inputs.now candidates.now) result }
     ensures among { IfOk result (λ picked. list_any (is_of picked) candidates.now ≡ true) }
 {

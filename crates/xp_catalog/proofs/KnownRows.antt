@@ -4,6 +4,7 @@ use Rattle.std.specs.Option.{option_map_or}
 use Rattle.std.specs.List.{All, list_all}
 use Rattle.std.proofs.lemmas.List.Elements.{All-append, All-cons, All-nil, All-push, All-weaker}
 use Rattle.std.proofs.lemmas.Bool.{and_parts}
+use Rattle.xp_base.specs.declared.limits.TheConstants.{RECORD_LIMIT}
 use Rattle.xp_base.specs.declared.numbers.TypeNo.{TypeNo}
 use Rattle.xp_catalog.specs.declared.rows.PseudoType.{PseudoType}
 use Rattle.xp_catalog.specs.declared.rows.TypeKind.{TypeKind}
@@ -287,7 +288,7 @@ built_known n c (more m before r built keeps) =
     let below = built_known m before built in
     (added_known before r below.0 (keeps-each before r keeps), added_rows m before r below.1)
 
-pub IsKnown-built : (n : ℕ) (c : Contents) → IsBuilt n c → n ≤ 20000 → IsKnown c
+pub IsKnown-built : (n : ℕ) (c : Contents) → IsBuilt n c → n ≤ RECORD_LIMIT → IsKnown c
 IsKnown-built n c built within =
     let p = built_known n c built in
     let rows = p.1 in
@@ -308,7 +309,7 @@ IsWellFormed-first = record { count = 0; within = omega arith; built = nothing; 
 pub IsWellFormed-added : (c : Contents) (r : Record) → HasRoom c → keeps_rules c r ≡ true → IsWellFormed (added c r)
 IsWellFormed-added c r room keeps =
     let built : IsBuilt (room.count + 1) (added c r) = more room.count c r room.built keeps in
-    let within : room.count + 1 ≤ 20000 = omega (arith, room.within) in
+    let within : room.count + 1 ≤ RECORD_LIMIT = omega (arith, room.within) in
     record { count = room.count + 1; within = within; built = built; known = IsKnown-built (room.count + 1) (added c r) built within }
 
 -- the same of the rows that a call finds, and of those that it leaves

@@ -1,6 +1,7 @@
 -- Rows whose numbers are those of rows, and how many rows there may be.
-use Rattle.std.specs.Prelude.{◌<◌, ◌≤◌, length, IfSome}
+use Rattle.std.specs.Prelude.{◌+◌, ◌*◌, ◌<◌, ◌≤◌, length, IfSome}
 use Rattle.std.specs.List.{All}
+use Rattle.xp_base.specs.declared.limits.TheConstants.{RECORD_LIMIT}
 use Rattle.xp_catalog.specs.declared.rows.TypeKind.{TypeKind}
 use Rattle.xp_catalog.specs.declared.rows.TypeKind.TheVariants as kind
 use Rattle.xp_catalog.specs.declared.rows.CastMethod.{CastMethod}
@@ -47,14 +48,14 @@ pub record IsKnownRange (c : Contents) (range : RangeRow) : Type 0 where
   pub ty : range.ty.0 < length c.types
   pub subtype : range.subtype.0 < length c.types
 
--- no more rows than 20,000 records give
+-- no more rows than the most records give: each two types at most, and `unknown`
 pub record HasFewRows (c : Contents) : Type 0 where
-  pub types : length c.types ≤ 40001
-  pub casts : length c.casts ≤ 20000
-  pub funcs : length c.funcs ≤ 20000
-  pub opers : length c.opers ≤ 20000
-  pub domains : length c.domains ≤ 20000
-  pub ranges : length c.ranges ≤ 20000
+  pub types : length c.types ≤ 2 * RECORD_LIMIT + 1
+  pub casts : length c.casts ≤ RECORD_LIMIT
+  pub funcs : length c.funcs ≤ RECORD_LIMIT
+  pub opers : length c.opers ≤ RECORD_LIMIT
+  pub domains : length c.domains ≤ RECORD_LIMIT
+  pub ranges : length c.ranges ≤ RECORD_LIMIT
 
 -- what holds of every catalogue's numbers
 pub record IsKnown (c : Contents) : Type 0 where

@@ -1,9 +1,10 @@
 -- The rules that a record keeps against the rows of the records before it (this project's own; manual CREATE CAST, CREATE DOMAIN, CREATE TYPE, 38.2.5).
-use Rattle.std.specs.Prelude.{ℕ, zero, suc, ◌-◌, List, [], ◌∷◌, Bool, true, false, ◌==◌, ◌&&◌, ◌||◌, not, cond, length, nat_lt, nat_le, codes, slice_get, is_some, Option}
+use Rattle.std.specs.Prelude.{ℕ, zero, suc, ◌-◌, List, [], ◌∷◌, Bool, true, false, ◌==◌, ◌&&◌, ◌||◌, not, cond, length, nat_lt, nat_le, codes, slice_get, is_some, slice_index, Option}
 use Rattle.std.specs.Option.{option_map_or}
 use Rattle.std.specs.List.{list_all, list_any}
 use Rattle.std.specs.Str.{bytes_eq}
 use Rattle.xp_base.specs.Operators.{is_operator_name}
+use Rattle.xp_base.specs.declared.limits.TheConstants.{ARGUMENT_LIMIT}
 use Rattle.xp_base.specs.declared.numbers.TypeNo.{TypeNo}
 use Rattle.xp_base.specs.declared.numbers.RowNo.{RowNo}
 use Rattle.xp_catalog.specs.declared.rows.Family.{Family}
@@ -28,9 +29,6 @@ use Rattle.xp_catalog.specs.Spelling.{is_among, is_letter_of, is_name, is_type_n
 abbrev pub name_of : Contents → TypeNo → List ℕ
 name_of c type = option_map_or (λ row. row.name) (slice_get c.types type.0) []
 
-abbrev pub is_called : Contents → TypeNo → List ℕ → Bool
-is_called c type name = bytes_eq (name_of c type) name
-
 abbrev pub kind_of : Contents → TypeNo → TypeKind
 kind_of c type = option_map_or (λ row. row.kind) (slice_get c.types type.0) kind.Plain
 
@@ -41,6 +39,10 @@ is_domain_kind _ = false
 abbrev pub is_pseudo_kind : TypeKind → Bool
 is_pseudo_kind (kind.Pseudo pseudo) = true
 is_pseudo_kind _ = false
+
+abbrev pub is_any_kind : TypeKind → Bool
+is_any_kind (kind.Pseudo pseudo.Any) = true
+is_any_kind _ = false
 
 -- a type that records may name: one of the rows before, but not `unknown`
 abbrev pub is_known : Contents → TypeNo → Bool
@@ -101,10 +103,18 @@ is_spelled form.Operator name = is_operator_name name
 abbrev pub has_good_name : Record → Bool
 has_good_name r = is_spelled (form_of r) (own_name r)
 
--- BadCategory
+-- the letters of its category, which a plain type alone gives
+abbrev pub own_category : Record → List ℕ
+own_category (row.Plain name category preferred line) = category ∷ []
+own_category _ = []
+
+-- BadCategory: one letter, which the name may have
+abbrev pub is_category : RecordKind → List ℕ → List ℕ → Bool
+is_category form.Plain name letters = length letters == 1 && is_letter_of name (slice_index letters 0)
+is_category _ name letters = true
+
 abbrev pub has_good_category : Record → Bool
-has_good_category (row.Plain name category preferred line) = is_letter_of name category
-has_good_category _ = true
+has_good_category r = is_category (form_of r) (own_name r) (own_category r)
 
 -- UnknownType
 abbrev pub has_known_types : Contents → Record → Bool
@@ -183,9 +193,9 @@ is_castable c type = not (is_domain_kind (kind_of c type)) && not (is_pseudo_kin
 -- BadArgs
 abbrev pub has_good_args : Contents → Record → Bool
 has_good_args c (row.Function func) =
-    nat_le (length func.args) 100 && has_good_last c func.variadic func.args && not (is_called c func.result (codes "any"))
+    nat_le (length func.args) ARGUMENT_LIMIT && has_good_last c func.variadic func.args && not (is_any_kind (kind_of c func.result))
     && has_member c First func.args func.result && has_member c Second func.args func.result
-has_good_args c (row.Operator oper) = list_all (λ type. not (is_called c type (codes "any"))) (operands oper.left oper.right)
+has_good_args c (row.Operator oper) = list_all (λ type. not (is_any_kind (kind_of c type))) (operands oper.left oper.right)
 has_good_args c (row.Cast cast) =
     is_castable c cast.from && is_castable c cast.to && not (cast.from.0 == cast.to.0) && has_good_method c cast cast.method
 has_good_args c _ = true

@@ -17,7 +17,7 @@ use Rattle.xp_candidates.proofs.InOrder.{All-listed, InOrder, InOrder-filter, In
 use Rattle.xp_candidates.proofs.Made.{made-ambiguous}
 use Rattle.xp_func.specs.Candidates.{candidates, element_of, expanded_of, expansion, forms_of, is_covered, is_meant, named_forms, own_form, unexpanded, unexpanded_of, unless_covered}
 use Rattle.xp_func.specs.Exact.{exact, is_exact}
-use Rattle.xp_func.specs.Picked.{AreLeftOf, chosen_call, exact_or, picked_among, picked_function, request_or}
+use Rattle.xp_func.specs.Picked.{AreLeftOf, chosen_call, exact_or, picked_function, request_or}
 use Rattle.xp_func.specs.Request.{cast_request}
 use Rattle.xp_func.specs.declared.pick.PickedFunc.{PickedFunc}
 use Rattle.xp_func.specs.declared.pick.PickedFunc.TheVariants.{Call}

@@ -2,6 +2,7 @@
 ghost use Rattle.std.specs.Prelude.{◌≡◌, ◌<◌, ◌≤◌, IfOk, length};
 ghost use Rattle.std.specs.List.{All};
 ghost use Rattle.std.specs.Option.{ForSome, option_to_list};
+ghost use Rattle.xp_base.specs.declared.limits.TheConstants.{ARGUMENT_LIMIT};
 ghost use Rattle.xp_catalog.specs.Known.{IsKnownFunc};
 ghost use Rattle.xp_catalog.specs.Lookups.{same_types};
 ghost use Rattle.xp_candidates.specs.Accepted.{IsCandidate};
@@ -106,7 +107,7 @@ fn form_of(
 ) -> Result<Option<Candidate>, AllocError>
     requires known { IsKnownFunc c.now func.now }
     requires number { number < length c.now.funcs }
-    requires room { count ≤ 100 }
+    requires room { count ≤ ARGUMENT_LIMIT }
     ensures value { IfOk result (λ form. option_to_list form ≡ forms_of c.now count plain.now number func.now) }
     ensures known { IfOk result (λ form. ForSome form (IsCandidate c.now count)) }
     ensures row { IfOk result (λ form. ForSome form (λ candidate. candidate.row.0 < length c.now.funcs)) }
@@ -135,7 +136,7 @@ fn named_form(
 ) -> Result<Option<Candidate>, AllocError>
     requires known { IsKnownFunc c.now func.now }
     requires number { number < length c.now.funcs }
-    requires room { count ≤ 100 }
+    requires room { count ≤ ARGUMENT_LIMIT }
     ensures value { IfOk result (λ form. option_to_list form ≡ named_forms c.now name.now count plain.now number func.now) }
     ensures known { IfOk result (λ form. ForSome form (IsCandidate c.now count)) }
     ensures row { IfOk result (λ form. ForSome form (λ candidate. candidate.row.0 < length c.now.funcs)) }
@@ -155,7 +156,7 @@ fn forms(
     count: usize,
     plain: &[Candidate],
 ) -> Result<Vec<Candidate>, AllocError>
-    requires { count ≤ 100 }
+    requires { count ≤ ARGUMENT_LIMIT }
     ensures value { IfOk result (λ list. list.items ≡ forms_from (named_forms c.now name.now count plain.now) 0 c.now.funcs) }
     ensures known { IfOk result (λ list. All (IsCandidate c.now count) list.items) }
     ensures rows { IfOk result (λ list. All (λ candidate. candidate.row.0 < length c.now.funcs) list.items) }
@@ -178,7 +179,7 @@ pub fn candidates(
     count: usize,
     variadic: bool,
 ) -> Result<Vec<Candidate>, AllocError>
-    requires { count ≤ 100 }
+    requires { count ≤ ARGUMENT_LIMIT }
     ensures value { IfOk result (λ list. list.items ≡ candidates c.now name.now count variadic) }
     ensures known { IfOk result (λ list. All (IsCandidate c.now count) list.items) }
     ensures rows { IfOk result (λ list. All (λ candidate. candidate.row.0 < length c.now.funcs) list.items) }

@@ -1,6 +1,7 @@
 //! Variadic records with their last parameter as several arguments.
 ghost use Rattle.std.specs.Prelude.{◌≡◌, ◌+◌, ◌<◌, ◌≤◌, IfOk, IfSome, length, replicate, take, ◌++◌};
 ghost use Rattle.std.specs.Option.{ForSome};
+ghost use Rattle.xp_base.specs.declared.limits.TheConstants.{ARGUMENT_LIMIT};
 ghost use Rattle.xp_types.specs.Within.{AreTypes};
 ghost use Rattle.xp_catalog.specs.Known.{IsKnownFunc};
 ghost use Rattle.xp_candidates.specs.Accepted.{IsCandidate};
@@ -58,7 +59,7 @@ pub fn expansion(
 ) -> Result<Option<Candidate>, AllocError>
     requires known { IsKnownFunc c.now func.now }
     requires number { number < length c.now.funcs }
-    requires room { count ≤ 100 }
+    requires room { count ≤ ARGUMENT_LIMIT }
     ensures value { IfOk result (λ form. form ≡ expansion c.now count number func.now) }
     ensures known { IfOk result (λ form. ForSome form (IsCandidate c.now count)) }
     ensures row { IfOk result (λ form. ForSome form (λ candidate. candidate.row.0 < length c.now.funcs)) }

@@ -2,6 +2,7 @@
 ghost use Rattle.std.specs.Prelude.{◌≡◌, ◌<◌, ◌≤◌, IfOk, length};
 ghost use Rattle.xp_types.specs.Within.{AreTypes};
 ghost use Rattle.std.specs.List.{All};
+ghost use Rattle.xp_base.specs.declared.limits.TheConstants.{ARGUMENT_LIMIT};
 ghost use Rattle.xp_candidates.specs.Accepted.{IsCandidate};
 ghost use Rattle.xp_candidates.specs.Chosen.{Answers, IfAmbiguous};
 ghost use Rattle.xp_func.specs.Picked.{AreLeftOf, IsKnownPick, chosen_call, picked_among, picked_function, request_or};
@@ -35,7 +36,7 @@ fn choose_call(
 ) -> Result<PickedFunc, Pick>
     requires candidates { All (IsCandidate c.now (length inputs.now)) candidates.now }
     requires rows { All (λ candidate. candidate.row.0 < length c.now.funcs) candidates.now }
-    requires count { length inputs.now ≤ 100 }
+    requires count { length inputs.now ≤ ARGUMENT_LIMIT }
     requires inputs { AreTypes c.now inputs.now }
     ensures value { Answers (chosen_call c.now variadic inputs.now candidates.now) result }
     ensures within { IfOk result (IsKnownPick c.now) }
@@ -58,7 +59,7 @@ fn request_or_choose(
 ) -> Result<PickedFunc, Pick>
     requires candidates { All (IsCandidate c.now (length inputs.now)) candidates.now }
     requires rows { All (λ candidate. candidate.row.0 < length c.now.funcs) candidates.now }
-    requires count { length inputs.now ≤ 100 }
+    requires count { length inputs.now ≤ ARGUMENT_LIMIT }
     requires inputs { AreTypes c.now inputs.now }
     ensures value { Answers (request_or (cast_request c.now name.now inputs.now variadic) (chosen_call c.now variadic inputs.now candidates.now)) result }
     ensures within { IfOk result (IsKnownPick c.now) }
@@ -80,7 +81,7 @@ fn pick_among(
 ) -> Result<PickedFunc, Pick>
     requires candidates { All (IsCandidate c.now (length inputs.now)) candidates.now }
     requires rows { All (λ candidate. candidate.row.0 < length c.now.funcs) candidates.now }
-    requires count { length inputs.now ≤ 100 }
+    requires count { length inputs.now ≤ ARGUMENT_LIMIT }
     requires inputs { AreTypes c.now inputs.now }
     ensures value { Answers (picked_among c.now name.now inputs.now variadic candidates.now) result }
     ensures within { IfOk result (IsKnownPick c.now) }
@@ -109,7 +110,7 @@ pub fn pick_function(
     inputs: &[TypeNo],
     variadic: bool,
 ) -> Result<PickedFunc, Pick>
-    requires count { length inputs.now ≤ 100 }
+    requires count { length inputs.now ≤ ARGUMENT_LIMIT }
     requires inputs { AreTypes c.now inputs.now }
     ensures value { Answers (picked_function c.now name.now inputs.now variadic) result }
     ensures within { IfOk result (IsKnownPick c.now) }

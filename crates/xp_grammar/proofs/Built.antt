@@ -17,15 +17,15 @@ use Rattle.xp_grammar.specs.Grammar.{Derives}
 use Rattle.xp_grammar.specs.Reads.{IsStatement}
 
 -- an expression, or one that ends in a type
-abbrev Operand : Type 0
+abbrev pub Operand : Type 0
 Operand = Ast ⊎ (Ast × (Span × TypeWords))
 
-abbrev operand : Operand → Value
+abbrev pub operand : Operand → Value
 operand (inl x) = Tree x
 operand (inr q) = Casted q.0 q.1.0 q.1.1
 
 -- what a level stands for: of SELECTs the last, and those before it
-abbrev Of : Level → Type 0
+abbrev pub Of : Level → Type 0
 Of l.Statement = StatementAst
 Of l.Selects = List SelectArm × SelectArm
 Of l.Items = List ItemAst
@@ -40,7 +40,7 @@ Of l.Basic = TypeWords
 Of l.Typename = Span × TypeName
 Of _ = Ast
 
-abbrev value : (m : Level) → Of m → Value
+abbrev pub value : (m : Level) → Of m → Value
 value l.Statement o = Stated o
 value l.Selects o = Selected (o.0 ++ o.1 ∷ [])
 value l.Items o = Labels o
@@ -67,28 +67,28 @@ value l.E9 o = Tree o
 value l.E10 o = Tree o
 value l.E12 o = Tree o
 
-abbrev AllOf : List Sym → Type 0
+abbrev pub AllOf : List Sym → Type 0
 AllOf [] = Unit {0}
 AllOf (Tok a ∷ ss) = Token × AllOf ss
 AllOf (Lev m ∷ ss) = Of m × AllOf ss
 
-abbrev values : (ss : List Sym) → AllOf ss → List Value
+abbrev pub values : (ss : List Sym) → AllOf ss → List Value
 values [] os = []
 values (Tok a ∷ ss) os = Word os.0 ∷ values ss os.1
 values (Lev m ∷ ss) os = value m os.0 ∷ values ss os.1
 
-first_same : (x y : Value) (xs ys : List Value) → x ∷ xs ≡ y ∷ ys → x ≡ y
+pub first_same : (x y : Value) (xs ys : List Value) → x ∷ xs ≡ y ∷ ys → x ≡ y
 first_same x y xs ys e = cc
 
-abbrev Built : Level → Value → Type 0
+abbrev pub Built : Level → Value → Type 0
 Built m v = (o : Of m) × (v ≡ value m o)
 
-select_built : (arms : List SelectArm) (last : SelectArm) → (o : StatementAst) × (selected (arms ++ last ∷ []) ≡ Stated o)
+unfoldable pub select_built : (arms : List SelectArm) (last : SelectArm) → (o : StatementAst) × (selected (arms ++ last ∷ []) ≡ Stated o)
 select_built [] last = (_, refl)
 select_built (a ∷ []) last = (_, refl)
 select_built (a ∷ b ∷ arms) last = (_, refl)
 
-start_built : (x : Start) (os : AllOf (parts x)) → Built (level x) (made x (values (parts x) os))
+unfoldable pub start_built : (x : Start) (os : AllOf (parts x)) → Built (level x) (made x (values (parts x) os))
 start_built s.selects os = select_built os.0.0 os.0.1
 start_built s.values os = (_, refl)
 start_built s.store os = (_, refl)
@@ -177,7 +177,12 @@ start_built s.character_varying os = ((_, _), refl)
 start_built s.moment_type os = ((_, _), refl)
 start_built s.moment_zoned os = ((_, _), refl)
 
-tail_built : (x : Tail) (o : Of (on x)) (us : List Token) (os : AllOf (turn x)) → fits x (value (on x) o) ≡ true → Built (on x) (joined x (value (on x) o) us (values (turn x) os))
+-- brackets behind a type are the type's where they hold one whole number, else a subscript
+unfoldable pub bracket_built : (q : Ast × (Span × TypeWords)) (t : Token) (x : Ast) (b : Bool) → Built l.E11 (bracketed (Casted q.0 q.1.0 q.1.1) b (Word t ∷ Tree x ∷ []))
+bracket_built q t x true = (inr (_, (_, _)), refl)
+bracket_built q t x false = (inl _, refl)
+
+unfoldable pub tail_built : (x : Tail) (o : Of (on x)) (us : List Token) (os : AllOf (turn x)) → fits x (value (on x) o) ≡ true → Built (on x) (joined x (value (on x) o) us (values (turn x) os))
 tail_built c.union o us os h = ((o.0 ++ o.1 ∷ [], _), refl)
 tail_built c.next_item o us os h = (_, refl)
 tail_built c.next_row o us os h = (_, refl)
@@ -194,11 +199,7 @@ tail_built c.cast (inr q) us os h = (inr (_, (_, _)), refl)
 tail_built c.empty_brackets (inl a) us os h = absurd cc
 tail_built c.empty_brackets (inr q) us os h = (inr (_, (_, _)), refl)
 tail_built c.brackets (inl a) us os h = (inl _, refl)
-tail_built c.brackets (inr q) us os h = by (one_whole us)
-  where
-    by : (b : Bool) → Built l.E11 (bracketed (Casted q.0 q.1.0 q.1.1) b (Word os.0 ∷ Tree os.1.0 ∷ []))
-    by true = (inr (_, (_, _)), refl)
-    by false = (inl _, refl)
+tail_built c.brackets (inr q) us os h = bracket_built q os.0 os.1.0 (one_whole us)
 tail_built c.next_one (all, true) us os h = absurd cc
 tail_built c.next_one (all, false) us os h = ((_, _), refl)
 tail_built c.next_variadic (all, true) us os h = absurd cc
@@ -207,7 +208,7 @@ tail_built c.next_arm o us os h = (_, refl)
 tail_built c.full_pair o us os h = (_, refl)
 tail_built c.full_sized_pair o us os h = (_, refl)
 
-derived_built : {ss : List Sym} {ts : List Token} {vs : List Value} → Derives ss ts vs → (os : AllOf ss) × (vs ≡ values ss os)
+unfoldable pub derived_built : {ss : List Sym} {ts : List Token} {vs : List Value} → Derives ss ts vs → (os : AllOf ss) × (vs ≡ values ss os)
 derived_built Derives.none = (tt, refl)
 derived_built (Derives.token a t h d) = let r = derived_built d in ((t, r.0), ap (λ z. Word t ∷ z) r.1)
 derived_built (Derives.begins {ss = ss} {ws = ws} {vs = vs} x d e) =

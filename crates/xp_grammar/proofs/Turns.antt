@@ -7,7 +7,7 @@ use Rattle.xp_grammar.specs.Table.{Level, Value, is_open, joined}
 use Rattle.xp_grammar.specs.inner.Machine.{and_then, expect, tails, any_opens, choose, used, onward, rank, parse, more}
 use Rattle.xp_grammar.proofs.Complete.{if_true, if_false}
 use Rattle.xp_grammar.proofs.Fronts.{left, run_left}
-use Rattle.xp_grammar.proofs.Fix.{Agree, and_then_same, choose_takes, expect_left, run_takes}
+use Rattle.xp_grammar.proofs.Fix.{Agree, and_then_same, choose_takes, run_takes}
 
 pub parse_left : (m : Level) (ts : List Token) → left (parse m ts) ≤ length ts
 unfolding parse

@@ -1,6 +1,7 @@
 -- The statement: the function answers what the definition says, and nothing else.
 use Rattle.std.proofs.Common.{◌≡◌, ℕ, zero, suc, ◌-◌, ◌^◌, ◌<◌, ◌≤◌, Bool, true, false, ◌&&◌, ◌==◌, cond, List, [], ◌∷◌, ◌++◌, length, drop, Option, Some, None, Result, Ok, Err, ◌⊎◌, ◌↔◌, ◌≢◌, inl, inr, refl, sym, ap, subst, ◌∙◌, arith, length-drop}
 use Rattle.std.proofs.lemmas.Bool.Decides.{nat_tests}
+use Rattle.xp_base.specs.declared.limits.TheConstants.{TOKEN_LIMIT}
 use Rattle.xp_lexer.specs.declared.scan_error.ScanError.{ScanError}
 use Rattle.xp_lexer.specs.declared.scan_error.ScanError.TheVariants as error
 use Rattle.xp_lexer.specs.Bytes.{Text}
@@ -154,9 +155,9 @@ ends_are total room z ts y rest fits few p s =
 pub answer_is : (text : Text) (from : ℕ) (a : Answer) → length text < 2 ^ 32 → IsAnswer text from a → lexed text from ≡ a
 unfolding lexed
 answer_is text from a fits (IsAnswer.tokens all z rest p few s) =
-    rw (ends_are (length text) 20000 (drop from text) all z rest (omega (arith, length-drop from text)) few p s) refl
+    rw (ends_are (length text) TOKEN_LIMIT (drop from text) all z rest (omega (arith, length-drop from text)) few p s) refl
 answer_is text from a fits (IsAnswer.fails t f) =
-    rw (fails_are (length text) 20000 (drop from text) t (omega (arith, length-drop from text)) f) refl
+    rw (fails_are (length text) TOKEN_LIMIT (drop from text) t (omega (arith, length-drop from text)) f) refl
 
 -- the answer that there is
 abbrev HasAnswer : ℕ → ℕ → Text → Type 0
@@ -196,9 +197,9 @@ answers_within zero total room z h fits = absurd (omega arith)
 answers_within (suc n) total room z h fits = at_piece total room z fits (piece_cases z fits) (λ m y s. answers_within n total m y (omega arith) (omega arith))
 
 answer_found : (text : Text) (from : ℕ) → length text < 2 ^ 32 → (a : Answer) × IsAnswer text from a
-answer_found text from fits = by (answers_within (suc (length (drop from text))) (length text) 20000 (drop from text) (omega arith) (omega (arith, length-drop from text)))
+answer_found text from fits = by (answers_within (suc (length (drop from text))) (length text) TOKEN_LIMIT (drop from text) (omega arith) (omega (arith, length-drop from text)))
   where
-    by : HasAnswer (length text) 20000 (drop from text) → (a : Answer) × IsAnswer text from a
+    by : HasAnswer (length text) TOKEN_LIMIT (drop from text) → (a : Answer) × IsAnswer text from a
     by (inl (ts, y, rest, p, few, s)) = (_, IsAnswer.tokens ts y rest p few s)
     by (inr (t, f)) = (_, IsAnswer.fails t f)
 
@@ -246,7 +247,7 @@ from_memory total (error.TooManyTokens left) e = absurd cc
 
 answer_remembers : (text : Text) (from : ℕ) (a : Answer) → IsAnswer text from a → a ≡ Err fault.Memory → ⊥
 answer_remembers text from a (IsAnswer.tokens all z rest p few s) e = absurd cc
-answer_remembers text from a (IsAnswer.fails t f) e = let g : fault_of (length text) t ≡ fault.Memory = cc in fails_remember (length text) 20000 (drop from text) t f (from_memory (length text) t g)
+answer_remembers text from a (IsAnswer.fails t f) e = let g : fault_of (length text) t ≡ fault.Memory = cc in fails_remember (length text) TOKEN_LIMIT (drop from text) t f (from_memory (length text) t g)
 
 pub lexed_remembers : (text : Text) (from : ℕ) → length text < 2 ^ 32 → lexed text from ≢ Err fault.Memory
 lexed_remembers text from fits = answer_remembers text from (lexed text from) (answer_right text from fits)

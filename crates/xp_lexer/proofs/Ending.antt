@@ -2,6 +2,7 @@
 use Rattle.std.proofs.Common.{◌≡◌, ℕ, ◌-◌, ◌^◌, ◌<◌, ◌≤◌, Bool, true, false, not, ◌&&◌, ◌||◌, ◌==◌, cond, List, [], ◌∷◌, ◌++◌, length, drop, Option, Some, None, Result, Ok, Err, IfOk, refl, ◌∙◌, arith, length-drop}
 use Rattle.std.specs.Prelude.{nat_lt, nat_le}
 use Rattle.std.proofs.lemmas.Bool.{and_from, false≢true}
+use Rattle.xp_base.specs.declared.limits.TheConstants.{TOKEN_LIMIT}
 use Rattle.xp_lexer.specs.declared.numbers.Exponent.{Exponent}
 use Rattle.xp_lexer.specs.declared.numbers.Exponent.TheVariants as shift
 use Rattle.xp_lexer.specs.declared.lexed.Lexed.{Lexed}
@@ -87,7 +88,7 @@ answer_ended text from a fits inside (IsAnswer.fails t f) = tt
 answer_ended text from a fits inside (IsAnswer.tokens all z rest p few s) =
     let e = token_at (length text) z rest EndOf in
     let n : length (drop from text) ≡ length text - from = length-drop from text in
-    let shorter = (passes_are (length text) 20000 false (drop from text) all z (omega (arith, n)) few (λ h. absurd (false≢true h)) p).1 in
+    let shorter = (passes_are (length text) TOKEN_LIMIT false (drop from text) all z (omega (arith, n)) few (λ h. absurd (false≢true h)) p).1 in
     let ends = stops_shorter z rest (length (drop from text)) s shorter in
     (passes_ended (length text) (drop from text) all z e refl p, passes_plain (length text) (drop from text) all z e refl p, omega arith, λ h. omega (arith, n, ends.1 (omega (arith, n, h)), h))
 

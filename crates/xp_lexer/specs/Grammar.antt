@@ -4,6 +4,7 @@ use Rattle.std.specs.Prelude.{◌≡◌, ℕ, ◌+◌, ◌-◌, ◌*◌, ◌^◌
 use Rattle.std.specs.Char.{digit_value, is_digit}
 use Rattle.std.specs.List.{list_any, list_all}
 use Rattle.std.specs.Str.{str_to_ascii_lowercase}
+use Rattle.xp_base.specs.declared.limits.TheConstants.{TOKEN_LIMIT}
 use Rattle.xp_lexer.specs.declared.numbers.Exponent.{Exponent}
 use Rattle.xp_lexer.specs.declared.numbers.Exponent.TheVariants as shift
 use Rattle.xp_token.specs.declared.token.Mark.TheVariants as mark
@@ -198,8 +199,8 @@ pub data Fails (total room : ℕ) : Text → ScanError → Type 0 where
 
 -- what the statement that begins at a place is: at most 20,000 tokens and an End, and the place behind it, or the first fault
 pub data IsAnswer (text : Text) (from : ℕ) : Answer → Type 0 where
-  tokens : (all : List Placed) (z rest : Text) → Passes (length text) (drop from text) all z → length all ≤ 20000 → Stops z rest → IsAnswer text from (Ok (all ++ token_at (length text) z rest EndOf ∷ [], length text - length rest))
-  fails : (t : ScanError) → Fails (length text) 20000 (drop from text) t → IsAnswer text from (Err (fault_of (length text) t))
+  tokens : (all : List Placed) (z rest : Text) → Passes (length text) (drop from text) all z → length all ≤ TOKEN_LIMIT → Stops z rest → IsAnswer text from (Ok (all ++ token_at (length text) z rest EndOf ∷ [], length text - length rest))
+  fails : (t : ScanError) → Fails (length text) TOKEN_LIMIT (drop from text) t → IsAnswer text from (Err (fault_of (length text) t))
 
 -- what `lex` returned is what the statement is, unless memory ran out
 abbrev pub IsRight : Text → ℕ → Result Lexed LexFault → Type 0

@@ -1,5 +1,6 @@
 //! The tokens of a statement.
 ghost use Rattle.std.specs.Prelude.{◌≡◌, ◌<◌, ◌≤◌, ◌^◌, ◌-◌, length, drop, true, false, IfOk};
+ghost use Rattle.xp_base.specs.declared.limits.TheConstants.{TOKEN_LIMIT};
 ghost use Rattle.xp_lexer.specs.inner.Cutting as spec;
 ghost use Rattle.xp_lexer.specs.Lexed as told;
 ghost use Rattle.xp_lexer.specs.Meaning as meaning;
@@ -60,8 +61,8 @@ fn token_at(total: usize, z: &[u8], rest: &[u8], kind: TokenKind) -> Token
 /// A token that is no end may stand here.
 #[tactic(auto, unfolding(crate::specs::inner::Cutting::admitted))]
 fn admit(count: usize, z: &[u8], rest: &[u8], kind: &TokenKind) -> Result<(), ScanError>
-    requires { count ≤ 20000 }
-    ensures { spec.Gives (λ x. x) result (spec.admitted (20000 - count) z.now rest.now (seen kind.now)) }
+    requires { count ≤ TOKEN_LIMIT }
+    ensures { spec.Gives (λ x. x) result (spec.admitted (TOKEN_LIMIT - count) z.now rest.now (seen kind.now)) }
 {
     if count == TOKEN_LIMIT as usize {
         return Err(ScanError::TooManyTokens { left: z.len() });
@@ -76,7 +77,7 @@ fn admit(count: usize, z: &[u8], rest: &[u8], kind: &TokenKind) -> Result<(), Sc
 fn statement(alloc: Global, total: usize, mut z: &[u8]) -> Result<(Tokens, &[u8]), ScanError>
     requires whole { total < 2 ^ 32 }
     requires text { length z.now ≤ total }
-    ensures value { spec.Gives (λ x. (all_placed x.0, x.1.now)) result (spec.statement total 20000 false z.entry.now) }
+    ensures value { spec.Gives (λ x. (all_placed x.0, x.1.now)) result (spec.statement total TOKEN_LIMIT false z.entry.now) }
     ensures within { IfOk result (λ x. length x.1.now ≤ length z.entry.now) }
 {
     let mut tokens = Tokens::new(alloc);

@@ -2,6 +2,7 @@ pub mod Faults
 pub mod Fields
 pub mod Found
 pub mod Growing
+pub mod Judged
 pub mod KnownNames
 pub mod Leaf
 pub mod Loaded

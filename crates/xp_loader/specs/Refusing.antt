@@ -1,14 +1,15 @@
 -- The rules of a record in their order, and the first that it breaks (this project's own).
-use Rattle.std.specs.Prelude.{◌≡◌, ℕ, List, [], ◌∷◌, ◌++◌, Bool, true, false, ◌==◌, ◌&&◌, ◌||◌, cond, length, slice_index, is_some, Option, Some, None, Result, Ok, Err, codes}
+use Rattle.std.specs.Prelude.{ℕ, List, [], ◌∷◌, ◌++◌, Bool, true, false, ◌==◌, ◌&&◌, ◌||◌, cond, length, is_some, Option, Some, None, Result, Ok, Err, codes}
 use Rattle.std.specs.Option.{option_map_or}
 use Rattle.std.specs.Str.{bytes_eq}
+use Rattle.xp_base.specs.OrMemory.{OrMemory}
 use Rattle.xp_catalog.specs.declared.why.Why.{Why}
 use Rattle.xp_catalog.specs.declared.why.Why.TheVariants as why
 use Rattle.xp_catalog.specs.declared.record.Record.{Record}
 use Rattle.xp_catalog.specs.declared.record.Record.TheVariants as row
 use Rattle.xp_catalog.specs.Contents.{Contents}
-use Rattle.xp_catalog.specs.Rules.{has_function, has_good_args, has_good_base, is_new, is_spelled}
-use Rattle.xp_catalog.specs.Spelling.{is_among, is_flag, is_letter_of}
+use Rattle.xp_catalog.specs.Rules.{has_function, has_good_args, has_good_base, is_category, is_new, is_spelled}
+use Rattle.xp_catalog.specs.Spelling.{is_among, is_flag}
 use Rattle.xp_bodies.specs.Fits.{fits}
 use Rattle.xp_catalog.specs.declared.record.RecordKind.{RecordKind}
 use Rattle.xp_catalog.specs.declared.record.RecordKind.TheVariants as kind
@@ -44,13 +45,8 @@ has_flags kind.Domain fields = is_flag (field fields 3)
 has_flags kind.Function fields = is_flag (field fields 3) && is_volatility (field fields 5) && is_flag (field fields 6)
 has_flags _ fields = true
 
--- one letter, which the name may have
-abbrev pub is_category : List ℕ → List ℕ → Bool
-is_category name letter = length letter == 1 && is_letter_of name (slice_index letter 0)
-
 abbrev pub has_category : RecordKind → List (List ℕ) → Bool
-has_category kind.Plain fields = is_category (field fields 1) (field fields 2)
-has_category _ fields = true
+has_category form fields = is_category form (field fields 1) (field fields 2)
 
 abbrev pub is_context : List ℕ → Bool
 is_context = is_among (codes "implicit" ∷ codes "assignment" ∷ codes "explicit" ∷ [])
@@ -116,8 +112,16 @@ abbrev pub first_broken : List Rule → Contents → ℕ → List (List ℕ) →
 first_broken [] c line fields = None
 first_broken (rule ∷ more) c line fields = cond (rule.keeps c line fields) (first_broken more c line fields) (Some rule.why)
 
--- what is read of a record: the rule that it breaks, or what it adds, or want of memory
-abbrev pub Reads : Option Why → Option Record → Result Record Refusal → Type 0
-Reads broken said (Ok r) = (broken ≡ None) × (said ≡ Some r)
-Reads broken said (Err (Broken why)) = broken ≡ Some why
-Reads broken said (Err Memory) = Unit {0}
+-- what is read of a record: the rule that it breaks, or what it adds, which is there where it breaks none
+abbrev pub judged : Option Why → Option Record → Result Record Refusal
+judged (Some why) said = Err (Broken why)
+judged None (Some r) = Ok r
+judged None None = Err Memory
+
+abbrev pub is_memory : Refusal → Bool
+is_memory (Broken why) = false
+is_memory Memory = true
+
+-- this is read, or there was no memory
+abbrev pub Reads : Result Record Refusal → Result Record Refusal → Type 0
+Reads = OrMemory is_memory

@@ -1,8 +1,9 @@
 //! The rules that look at a record's fields alone.
 ghost use Rattle.std.specs.Prelude.{◌≡◌};
 ghost use Rattle.csv.specs.Records.{fields_of};
+ghost use Rattle.xp_catalog.specs.Rules.{is_category};
 ghost use Rattle.xp_loader.specs.Reading.{context_of, is_set, volatility_of};
-ghost use Rattle.xp_loader.specs.Refusing.{is_category, has_category, has_context, has_fields, has_flags, is_body, is_context, is_named, is_volatility, names_body};
+ghost use Rattle.xp_loader.specs.Refusing.{has_category, has_context, has_fields, has_flags, is_body, is_context, is_named, is_volatility, names_body};
 
 use crate::kind::field_count;
 use crate::names::body_of;
@@ -51,10 +52,10 @@ pub fn has_flags(kind: RecordKind, row: &ByteRecord) -> bool
     }
 }
 
-fn is_category(name: &[u8], letter: &[u8]) -> bool
-    ensures { result ≡ is_category name.now letter.now }
+fn is_category(name: &[u8], letters: &[u8]) -> bool
+    ensures { result ≡ is_category RecordKind.Plain name.now letters.now }
 {
-    letter.len() == 1 && is_letter_of(name, letter[0])
+    letters.len() == 1 && is_letter_of(name, letters[0])
 }
 
 pub fn has_category(kind: RecordKind, row: &ByteRecord) -> bool

@@ -1,6 +1,7 @@
 //! The loader.
-ghost use Rattle.std.specs.Prelude.{◌≡◌, ◌+◌, ◌-◌, ◌^◌, ◌<◌, IfOk, length, map};
+ghost use Rattle.std.specs.Prelude.{◌≡◌, ◌+◌, ◌-◌, ◌^◌, ◌<◌, ◌≤◌, IfOk, length, map};
 ghost use Rattle.csv.specs.Records.{fields_of};
+ghost use Rattle.xp_base.specs.declared.limits.TheConstants.{RECORD_LIMIT};
 ghost use Rattle.xp_bodies.specs.Fits.{IsFitted};
 ghost use Rattle.xp_catalog.specs.Contents.{first_contents};
 ghost use Rattle.xp_loader.specs.Loading.{IsLoaded, Loads, accepted, load_catalog, load_from};
@@ -18,7 +19,7 @@ fn accept(alloc: Global, c: Catalog, line: u32, row: &ByteRecord) -> Result<Cata
     requires loaded { IsLoaded (line - 1) c }
     ensures answer { Loads (accepted c line (fields_of row.now)) result }
     ensures loaded { IfOk result (IsLoaded line) }
-    ensures within { IfOk result (λ _. line < 20001) }
+    ensures within { IfOk result (λ _. line ≤ RECORD_LIMIT) }
 {
     if line > RECORD_LIMIT {
         return Err(CatFault::TooManyRows { line });

@@ -6,7 +6,7 @@ ghost use Rattle.xp_catalog.specs.Rules.{has_known_types};
 ghost use Rattle.xp_catalog.specs.WellFormed.{HasRoom};
 ghost use Rattle.xp_loader.specs.Reading.{kind_of, record_of};
 ghost use Rattle.xp_loader.specs.Records.{field};
-ghost use Rattle.xp_loader.specs.Refusing.{Reads, first_broken, form_rules, is_named, row_rules, rules};
+ghost use Rattle.xp_loader.specs.Refusing.{Reads, first_broken, form_rules, is_named, judged, row_rules, rules};
 
 use crate::form::{has_category, has_context, has_fields, has_flags, is_named, names_body};
 use crate::kind::kind_of;
@@ -97,7 +97,7 @@ fn read_row(
     requires room { HasRoom c.now }
     requires kind { kind_of (field (fields_of row.now) 0) ≡ Some kind }
     requires named { is_named kind (fields_of row.now) ≡ true }
-    ensures { Reads (first_broken row_rules c.now line (fields_of row.now)) (record_of c.now line (fields_of row.now)) result }
+    ensures { Reads (judged (first_broken row_rules c.now line (fields_of row.now)) (record_of c.now line (fields_of row.now))) result }
 {
     let Some(record) = read_as(alloc, c, kind, line, row)? else {
         return Err(Refusal::Broken(Why::UnknownType));
@@ -111,7 +111,7 @@ fn read_row(
 /// What the record of that line adds behind the rows of the catalogue, or the first rule that it breaks.
 pub fn read(alloc: Global, c: &Catalog, line: u32, row: &ByteRecord) -> Result<Record, Refusal>
     requires { HasRoom c.now }
-    ensures { Reads (first_broken rules c.now line (fields_of row.now)) (record_of c.now line (fields_of row.now)) result }
+    ensures { Reads (judged (first_broken rules c.now line (fields_of row.now)) (record_of c.now line (fields_of row.now))) result }
 {
     let Some(kind) = kind_of(field(row, 0)) else {
         return Err(Refusal::Broken(Why::BadKind));

@@ -1,9 +1,9 @@
 //! The rules that look at what a record adds, against the rows of the records before it. Those on
 //! types are asked where each type that the record names is there.
-ghost use Rattle.std.specs.Prelude.{◌≡◌, ◌<◌, codes, is_some, length, option_map, slice_get, true};
+ghost use Rattle.std.specs.Prelude.{◌≡◌, ◌<◌, is_some, length, option_map, slice_get, true};
 ghost use Rattle.std.specs.List.{All, list_any};
 ghost use Rattle.xp_catalog.specs.Lookups.{oper_at, operands};
-ghost use Rattle.xp_catalog.specs.Rules.{casts_by, has_function, has_good_args, has_good_base, has_good_last, has_known_types, has_member, is_castable, is_called, is_domain_kind, is_member, is_new, is_pseudo_kind, kind_of, is_range_over, may_be_binary, may_be_variadic, name_of, takes_exactly};
+ghost use Rattle.xp_catalog.specs.Rules.{casts_by, has_function, has_good_args, has_good_base, has_good_last, has_known_types, has_member, is_any_kind, is_castable, is_domain_kind, is_member, is_new, is_pseudo_kind, kind_of, is_range_over, may_be_binary, may_be_variadic, name_of, takes_exactly};
 ghost use Rattle.xp_loader.specs.Refusing.{fits_body};
 
 use crate::types::{is_opaque, kind_of, name_of};
@@ -93,11 +93,11 @@ pub fn has_good_base(c: &Catalog, r: &Record) -> bool
     }
 }
 
-fn is_called_any(c: &Catalog, ty: TypeNo) -> bool
+fn is_any(c: &Catalog, ty: TypeNo) -> bool
     requires { ty.0 < length c.now.types }
-    ensures { result ≡ is_called c.now ty (codes "any") }
+    ensures { result ≡ is_any_kind (kind_of c.now ty) }
 {
-    name_of(c, ty) == b"any".as_slice()
+    matches!(kind_of(c, ty), TypeKind::Pseudo(PseudoType::Any))
 }
 
 fn may_be_variadic(c: &Catalog, ty: TypeNo) -> bool
@@ -162,7 +162,7 @@ fn has_good_signature(c: &Catalog, func: &FuncRow) -> bool
 {
     func.args.len() <= ARGUMENT_LIMIT as usize
         && has_good_last(c, func.variadic, func.args.as_slice())
-        && !is_called_any(c, func.result)
+        && !is_any(c, func.result)
         && has_member(c, Family::First, func.args.as_slice(), func.result)
         && has_member(c, Family::Second, func.args.as_slice(), func.result)
 }
@@ -172,8 +172,8 @@ fn has_good_operands(c: &Catalog, oper: &OperRow) -> bool
     ensures { result ≡ has_good_args c.now (Record.Operator oper.now) }
 {
     match oper.left {
-        Some(left) => !is_called_any(c, left) && !is_called_any(c, oper.right),
-        None => !is_called_any(c, oper.right),
+        Some(left) => !is_any(c, left) && !is_any(c, oper.right),
+        None => !is_any(c, oper.right),
     }
 }
 

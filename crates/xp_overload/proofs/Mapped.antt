@@ -1,5 +1,5 @@
 -- The steps over a list and over what its elements stand for leave the same.
-use Rattle.std.proofs.Common.{◌≡◌, ℕ, List, [], ◌∷◌, Bool, true, false, ◌&&◌, ◌||◌, ◌==◌, cond, max, get_or, refl, ap, ◌∙◌}
+use Rattle.std.proofs.Common.{◌≡◌, ℕ, List, [], ◌∷◌, Bool, true, false, ◌||◌, ◌==◌, cond, get_or, refl, ap, ◌∙◌}
 use Rattle.std.specs.Prelude.{All, map}
 use Rattle.std.specs.List.{enumerate_from, filter, list_all, zip}
 use Rattle.std.proofs.lemmas.List.Elements.{All-head, All-tail}

@@ -4,7 +4,7 @@ use Rattle.std.specs.Option.{option_map_or}
 use Rattle.std.specs.List.{enumerate_from, filter, list_all, list_any, zip}
 use Rattle.xp_overload.specs.Places.{slots_at}
 use Rattle.xp_overload.specs.Matches.{is_known}
-use Rattle.xp_overload.specs.Categories.{column, is_of, is_taken, of_category, or_all, selected, shared_category, survives, takes_category}
+use Rattle.xp_overload.specs.Categories.{column, is_of, is_taken, or_all, selected, shared_category, survives, takes_category}
 use Rattle.xp_overload.specs.inner.Demands.{demand_at, demand_for, demands_from, first_of, is_filled, is_wanted, meets, meets_all, passing}
 use Rattle.xp_overload.specs.declared.demands.Wanted.TheVariants.{OtherCategory}
 use Rattle.xp_overload.specs.declared.slots.InSlot.{InSlot}

@@ -1,5 +1,5 @@
 -- The category selected at each unknown position, and the candidates that take it (manual 10.2 step 3.e, 10.3 step 4.e).
-use Rattle.std.specs.Prelude.{ℕ, List, [], ◌∷◌, Bool, true, false, ◌==◌, ◌&&◌, ◌||◌, not, cond, Option, Some, None, filter, map, slice_index_or}
+use Rattle.std.specs.Prelude.{ℕ, List, [], ◌∷◌, Bool, false, ◌==◌, ◌&&◌, ◌||◌, not, cond, Option, Some, None, filter, map, slice_index_or}
 use Rattle.std.specs.Option.{option_map_or}
 use Rattle.std.specs.List.{enumerate_from, zip, list_any, list_all}
 use Rattle.xp_overload.specs.Matches.{is_known}

@@ -1,5 +1,5 @@
 -- The choice of one candidate: the steps in their order (manual 10.2 step 3.c to 3.f, 10.3 step 4.c to 4.f).
-use Rattle.std.specs.Prelude.{ℕ, List, [], ◌∷◌, Bool, true, false, cond, filter}
+use Rattle.std.specs.Prelude.{ℕ, List, [], ◌∷◌, Bool, filter}
 use Rattle.xp_overload.specs.Matches.{most_exact, most_preferred}
 use Rattle.xp_overload.specs.Categories.{of_category}
 use Rattle.xp_overload.specs.declared.slots.InSlot.{InSlot}

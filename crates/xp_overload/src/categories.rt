@@ -1,6 +1,7 @@
 //! The candidates that take the selected category at each unknown position (manual 10.2 step
 //! 3.e).
 ghost use Rattle.std.specs.Prelude.{◌≡◌, ◌≤◌, length};
+ghost use Rattle.xp_base.specs.declared.limits.TheConstants.{ARGUMENT_LIMIT};
 ghost use Rattle.xp_overload.specs.Places.{HaveSlots, kept, slots_at};
 ghost use Rattle.xp_overload.specs.Categories.{of_category};
 ghost use Rattle.xp_overload.specs.inner.Demands.{is_filled, meets_all, passing};
@@ -47,7 +48,7 @@ fn keep_passing(candidates: &[CandSlots], demands: &[Demand], keep: &mut [bool])
 pub fn keep_of_category(candidates: &[CandSlots], inputs: &[InSlot], keep: &mut [bool])
     requires lengths { length candidates.now ≡ length keep.old }
     requires slots { HaveSlots candidates.now (length inputs.now) }
-    requires room { length inputs.now ≤ 100 }
+    requires room { length inputs.now ≤ ARGUMENT_LIMIT }
     ensures { kept keep.new ≡ of_category (slots_at candidates.now) inputs.now (kept keep.old) }
 {
     let demands = demands(candidates, inputs, keep);

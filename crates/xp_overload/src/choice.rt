@@ -1,5 +1,6 @@
 //! The steps in their order (manual 10.2 step 3.c to 3.f, 10.3 step 4.c to 4.f).
 ghost use Rattle.std.specs.Prelude.{◌≡◌, ◌≤◌, length};
+ghost use Rattle.xp_base.specs.declared.limits.TheConstants.{ARGUMENT_LIMIT};
 ghost use Rattle.xp_overload.specs.Places.{HaveSlots, is_marked, kept, slots_at};
 ghost use Rattle.xp_overload.specs.Choosing.{choice_of, left};
 
@@ -50,7 +51,7 @@ pub fn choose(
     requires masks { length candidates.now ≡ length keep.old }
     requires as_known { length as_known.now ≡ length keep.old }
     requires slots { HaveSlots candidates.now (length inputs.now) }
-    requires room { length inputs.now ≤ 100 }
+    requires room { length inputs.now ≤ ARGUMENT_LIMIT }
     ensures left { kept keep.new ≡ left (slots_at candidates.now) (is_marked as_known.now) inputs.now (kept keep.old) }
     ensures choice { result ≡ choice_of (left (slots_at candidates.now) (is_marked as_known.now) inputs.now (kept keep.old)) }
 {

@@ -1,6 +1,7 @@
 //! What is demanded of a candidate at each unknown position (manual 10.2 step 3.e).
 ghost use Rattle.std.specs.Prelude.{◌≡◌, ◌≤◌, length, take};
 ghost use Rattle.std.specs.List.{list_any};
+ghost use Rattle.xp_base.specs.declared.limits.TheConstants.{ARGUMENT_LIMIT};
 ghost use Rattle.xp_overload.specs.Places.{HaveSlots, kept, slots_at};
 ghost use Rattle.xp_overload.specs.Categories.{column, selected, shared_category};
 ghost use Rattle.xp_overload.specs.inner.Demands.{Reaches, demand_at, demands_from, first_of, is_wanted, meets};
@@ -134,7 +135,7 @@ fn demand_at(input: InSlot, candidates: &[CandSlots], position: usize, keep: &[b
 pub fn demands(candidates: &[CandSlots], inputs: &[InSlot], keep: &[bool]) -> [Demand; ROOM]
     requires lengths { length candidates.now ≡ length keep.now }
     requires slots { HaveSlots candidates.now (length inputs.now) }
-    requires room { length inputs.now ≤ 100 }
+    requires room { length inputs.now ≤ ARGUMENT_LIMIT }
     ensures { take (length inputs.now) result ≡ demands_from candidates.now (kept keep.now) 0 inputs.now }
 {
     let mut demands = [Demand::Anything; ROOM];

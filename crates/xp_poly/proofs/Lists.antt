@@ -1,16 +1,7 @@
 -- Two lists side by side, and lists that grow by what a function gives.
-use Rattle.std.proofs.Common.{◌≡◌, ℕ, subst, map, set, slice_get, take, ◌+◌, ◌<◌, List, [], ◌∷◌, ◌++◌, All, IfSome, Option, Some, None, add-one, append-nil, append_assoc, ap, drop, drop-cons, filter_map, get_or, length, option_to_list, refl, sym, ◌∙◌, zip}
+use Rattle.std.proofs.Common.{◌≡◌, ℕ, subst, map, set, take, ◌+◌, ◌<◌, List, [], ◌∷◌, ◌++◌, All, IfSome, Option, Some, None, add-one, append-nil, append_assoc, ap, drop, drop-cons, filter_map, get_or, length, option_to_list, refl, sym, ◌∙◌, zip}
 use Rattle.std.proofs.lemmas.List.{take_more_set}
-use Rattle.std.proofs.lemmas.Option.{get_or_from_slice_get, slice_get_within}
 use Rattle.std.proofs.lemmas.List.Elements.{All-append, All-cons, All-nil}
-
--- the items from a place on begin with the item at that place
-pub rest_from : {X : Type 0} (xs : List X) (p : ℕ) (d : X) → p < length xs → drop p xs ≡ get_or xs p d ∷ drop (p + 1) xs
-rest_from xs p d under = rw (add-one p, drop-cons xs p d under) refl
-
--- the same by what stands at the place
-pub rest_at : {X : Type 0} (xs : List X) (p : ℕ) (x : X) → slice_get xs p ≡ Some x → drop p xs ≡ x ∷ drop (p + 1) xs
-rest_at xs p x at = rest_from xs p x (slice_get_within xs p x at) ∙ ap (λ y. y ∷ drop (p + 1) xs) (get_or_from_slice_get xs p x x at)
 
 -- the pairs from a place on begin with the pair at that place
 pub zip_from : {X Y : Type 0} (xs : List X) (ys : List Y) (p : ℕ) (d : X) (e : Y) → p < length xs → p < length ys → zip (drop p xs) (drop p ys) ≡ (get_or xs p d, get_or ys p e) ∷ zip (drop (p + 1) xs) (drop (p + 1) ys)

@@ -4,7 +4,7 @@ use Rattle.std.specs.Option.{option_map_or}
 use Rattle.xp_base.specs.declared.numbers.TypeNo.{TypeNo}
 use Rattle.xp_catalog.specs.declared.rows.RangeRow.{RangeRow}
 use Rattle.xp_types.specs.Readers.{is_same, unknown}
-use Rattle.xp_poly.proofs.Lists.{rest_at}
+use Rattle.xp_base.proofs.Lists.{rest_at}
 
 abbrev pub over : TypeNo → List RangeRow → TypeNo
 over t ranges = option_map_or (λ range. range.ty) (find (λ range. is_same range.subtype t) ranges) unknown

@@ -1,6 +1,7 @@
 //! Whether declared types accept inputs (manual 38.2.5, 10.2 step 3.a, 10.3 step 4.a).
 ghost use Rattle.std.specs.Prelude.{◌≡◌, ◌<◌, ◌≤◌, IfSome, length, take, zip};
 ghost use Rattle.std.specs.List.{list_all};
+ghost use Rattle.xp_base.specs.declared.limits.TheConstants.{ARGUMENT_LIMIT};
 ghost use Rattle.xp_types.specs.Within.{AreTypes, IsType};
 ghost use Rattle.xp_poly.specs.Members.{AreKnownTypes, given, range_given};
 ghost use Rattle.xp_poly.specs.Acceptance.{accepts, accepts_first, accepts_plain, accepts_second, array_type, compatible_type, counted, element_type, fit_compatible, fit_element, fits_compatible, fits_element, one_of, plain_accepts, reaches};
@@ -88,8 +89,8 @@ fn accepts_first(c: &Catalog, inputs: &[KnownInput]) -> bool
 /// Puts what the inputs count as at the front of the room, and tells how many they are.
 fn counted(c: &Catalog, inputs: &[KnownInput], room: &mut [TypeNo]) -> usize
     requires inputs { AreKnownTypes c.now inputs.now }
-    requires few { length inputs.now ≤ 100 }
-    requires room { length room.old ≡ 100 }
+    requires few { length inputs.now ≤ ARGUMENT_LIMIT }
+    requires room { length room.old ≡ ARGUMENT_LIMIT }
     ensures count { result ≤ length inputs.now }
     ensures list { take result room.new ≡ counted c.now inputs.now }
     ensures within { AreTypes c.now (take result room.new) }
@@ -105,7 +106,7 @@ fn counted(c: &Catalog, inputs: &[KnownInput], room: &mut [TypeNo]) -> usize
 /// The common type of what the inputs of the second family count as, and text where there are none.
 pub fn compatible_type(c: &Catalog, inputs: &[KnownInput]) -> Option<TypeNo>
     requires inputs { AreKnownTypes c.now inputs.now }
-    requires few { length inputs.now ≤ 100 }
+    requires few { length inputs.now ≤ ARGUMENT_LIMIT }
     ensures value { result ≡ compatible_type c.now inputs.now }
     ensures within { IfSome result (IsType c.now) }
 {
@@ -194,7 +195,7 @@ fn fit_compatible(
 fn accepts_second(c: &Catalog, declared: &[TypeNo], inputs: &[KnownInput]) -> bool
     requires declared { AreTypes c.now declared.now }
     requires inputs { AreKnownTypes c.now inputs.now }
-    requires few { length inputs.now ≤ 100 }
+    requires few { length inputs.now ≤ ARGUMENT_LIMIT }
     ensures { result ≡ accepts_second c.now declared.now inputs.now }
 {
     !uses(c, Family::Second, declared)
@@ -205,7 +206,7 @@ fn accepts_second(c: &Catalog, declared: &[TypeNo], inputs: &[KnownInput]) -> bo
 /// `unknown` is accepted everywhere, but by the second family in a catalogue without `text`.
 pub fn accepts(c: &Catalog, declared: &[TypeNo], inputs: &[TypeNo]) -> bool
     requires lengths { length declared.now ≡ length inputs.now }
-    requires few { length inputs.now ≤ 100 }
+    requires few { length inputs.now ≤ ARGUMENT_LIMIT }
     requires declared { AreTypes c.now declared.now }
     requires inputs { AreTypes c.now inputs.now }
     ensures { result ≡ accepts c.now declared.now inputs.now }

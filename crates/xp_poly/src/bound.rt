@@ -1,6 +1,7 @@
 //! The types that stand for declared types in a call (manual 38.2.5).
 ghost use Rattle.std.specs.Prelude.{◌≡◌, ◌<◌, ◌≤◌, IfSome, cond, find, length, map, true, unwrap_or, zip};
 ghost use Rattle.std.specs.Option.{option_map_or};
+ghost use Rattle.xp_base.specs.declared.limits.TheConstants.{ARGUMENT_LIMIT};
 ghost use Rattle.xp_types.specs.Common.{text};
 ghost use Rattle.xp_types.specs.Readers.{is_same, unknown};
 ghost use Rattle.xp_types.specs.Within.{AreTypes, IsType};
@@ -64,7 +65,7 @@ fn first_bond(c: &Catalog, inputs: &[KnownInput]) -> Bond
 
 fn second_bond(c: &Catalog, inputs: &[KnownInput]) -> Bond
     requires inputs { AreKnownTypes c.now inputs.now }
-    requires few { length inputs.now ≤ 100 }
+    requires few { length inputs.now ≤ ARGUMENT_LIMIT }
     requires some { 0 < length c.now.types }
     ensures value { result ≡ second_bond c.now inputs.now }
     ensures within { IsBond c.now result }
@@ -179,7 +180,7 @@ pub fn bind(
 ) -> Binding
     requires lengths { length declared.now ≡ length inputs.now }
     requires out { length out.old ≡ length inputs.now }
-    requires few { length inputs.now ≤ 100 }
+    requires few { length inputs.now ≤ ARGUMENT_LIMIT }
     requires declared { AreTypes c.now declared.now }
     requires declared_result { IsType c.now declared_result }
     requires inputs { AreTypes c.now inputs.now }

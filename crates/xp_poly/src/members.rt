@@ -1,5 +1,6 @@
 //! The known inputs at the positions of a family (manual 38.2.5).
 ghost use Rattle.std.specs.Prelude.{◌≡◌, ◌<◌, ◌≤◌, All, IfSome, find, is_some, length, take, zip};
+ghost use Rattle.xp_base.specs.declared.limits.TheConstants.{ARGUMENT_LIMIT};
 ghost use Rattle.xp_types.specs.Within.{AreTypes, IsType};
 ghost use Rattle.xp_poly.specs.Members.{AreKnownTypes, counts_as, counts_by, given, given_at, given_by, is_of_range, is_range_form, range_given};
 
@@ -57,8 +58,8 @@ pub fn given(
     room: &mut [KnownInput],
 ) -> usize
     requires lengths { length declared.now ≡ length inputs.now }
-    requires few { length inputs.now ≤ 100 }
-    requires room { length room.old ≡ 100 }
+    requires few { length inputs.now ≤ ARGUMENT_LIMIT }
+    requires room { length room.old ≡ ARGUMENT_LIMIT }
     requires declared { AreTypes c.now declared.now }
     requires inputs { AreTypes c.now inputs.now }
     ensures count { result ≤ length inputs.now }

@@ -1,5 +1,6 @@
 //! Lists at the front of a room.
 ghost use Rattle.std.specs.Prelude.{◌≡◌, ◌+◌, ◌<◌, ◌≤◌, ◌++◌, length, option_to_list, take};
+ghost use Rattle.xp_base.specs.declared.limits.TheConstants.{ARGUMENT_LIMIT};
 
 use xp_base::ARGUMENT_LIMIT;
 
@@ -9,7 +10,7 @@ pub const ROOM: usize = ARGUMENT_LIMIT as usize;
 /// Puts the item, where there is one, behind those at the front, and tells how many they are then.
 pub fn put<T: Copy>(room: &mut [T], count: usize, item: Option<T>) -> usize
     requires within { count < length room.old }
-    requires room { length room.old ≡ 100 }
+    requires room { length room.old ≡ ARGUMENT_LIMIT }
     ensures count { result ≤ count + 1 }
     ensures list { take result room.new ≡ take count room.old ++ option_to_list item }
 {

@@ -2,7 +2,7 @@
 use Rattle.std.proofs.Common.{◌≡◌, List, [], ◌∷◌, ◌++◌, Option, Some, None, Result, Ok, Err, refl, ap, append_assoc}
 use Rattle.std.specs.Option.{option_map}
 use Rattle.xp_run.specs.Analysis.{before}
-use Rattle.xp_run.specs.FromLeft.{and_then, joined}
+use Rattle.xp_base.specs.FromLeft.{and_then, joined}
 use Rattle.xp_run.specs.declared.resolve.Refusal.{Refusal}
 use Rattle.xp_run.specs.declared.resolve.Typed.{Typed}
 

@@ -11,12 +11,12 @@ use Rattle.xp_grammar.specs.inner.Machine.{first, symbol, walk, choose, onward, 
 use Rattle.xp_grammar.specs.Reads.{read}
 use Rattle.xp_grammar.specs.declared.ast.Ast.{Ast}
 use Rattle.xp_grammar.specs.declared.ast.Ast.TheVariants as e
-use Rattle.xp_parser.specs.Depth.{first_deep}
+use Rattle.xp_depth.specs.Depth.{first_deep}
 use Rattle.xp_parser.specs.Parses.{parsed}
 use Rattle.xp_base.specs.declared.codes.Code.TheVariants as code
 use Rattle.xp_run.specs.Analysis.{before, built, with_body}
 use Rattle.xp_run.specs.Answer.{Answer, answer_of}
-use Rattle.xp_run.specs.FromLeft.{and_then, each}
+use Rattle.xp_base.specs.FromLeft.{and_then, each}
 use Rattle.xp_run.specs.Report.{blocks_from, report, text_of}
 use Rattle.xp_run.specs.Resolve.{Resolution, resolved, operation, constant, int4_value}
 use Rattle.xp_run.specs.Script.{answers, refused}

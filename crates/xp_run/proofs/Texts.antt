@@ -5,7 +5,7 @@ use Rattle.std.proofs.lemmas.Bool.Decides.{nat_tests}
 use Rattle.xp_base.specs.Outside.{Files, Tells, TellsLonger, text_at}
 use Rattle.xp_base.specs.declared.limits.TheConstants.{CATALOG_LIMIT, SCRIPT_LIMIT}
 use Rattle.xp_catalog.specs.Contents.{Contents}
-use Rattle.xp_run.specs.FromLeft.{and_then}
+use Rattle.xp_base.specs.FromLeft.{and_then}
 use Rattle.xp_run.specs.Inputs.{Names, Texts, catalog_of, inputs_of, texts_in, within}
 use Rattle.xp_run.specs.inner.Reading.{ReadsText, ReadsTexts, Says}
 use Rattle.xp_run.specs.declared.ending.Ending.{Ending}

@@ -7,7 +7,7 @@ use Rattle.xp_catalog.specs.Contents.{Contents}
 use Rattle.xp_grammar.specs.declared.statement.Item.{Item}
 use Rattle.xp_grammar.specs.declared.statement.Statement.{Statement}
 use Rattle.xp_grammar.specs.declared.statement.Statement.TheVariants.{Select, UnionAll, Values, Store, Describe, Explain, ExplainAnalyze}
-use Rattle.xp_run.specs.FromLeft.{and_then, joined, each}
+use Rattle.xp_base.specs.FromLeft.{and_then, joined, each}
 use Rattle.xp_run.specs.Resolve.{Resolution, resolved}
 use Rattle.xp_run.specs.declared.analysis.Evaluable.{Evaluable}
 use Rattle.xp_run.specs.declared.resolve.Refusal.{Refusal}

@@ -4,7 +4,7 @@ use Rattle.std.specs.List.{list_all}
 use Rattle.xp_base.specs.declared.codes.EvalError.{EvalError}
 use Rattle.xp_base.specs.declared.numbers.TypeNo.{TypeNo}
 use Rattle.xp_run.specs.Evaluation.{first_of}
-use Rattle.xp_run.specs.FromLeft.{each}
+use Rattle.xp_base.specs.FromLeft.{each}
 use Rattle.xp_run.specs.declared.analysis.Evaluable.{Evaluable}
 use Rattle.xp_run.specs.declared.resolve.Refusal.{Refusal}
 use Rattle.xp_run.specs.declared.value.Value.{Value}

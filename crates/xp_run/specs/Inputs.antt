@@ -9,7 +9,7 @@ use Rattle.xp_catalog.specs.declared.why.CatFault.{CatFault}
 use Rattle.xp_catalog.specs.declared.why.CatFault.TheVariants as fault
 use Rattle.xp_catalog.specs.declared.why.Why.TheVariants as why
 use Rattle.xp_loader.specs.Loading.{load_catalog}
-use Rattle.xp_run.specs.FromLeft.{and_then}
+use Rattle.xp_base.specs.FromLeft.{and_then}
 use Rattle.xp_run.specs.declared.ending.Ending.{Ending}
 use Rattle.xp_run.specs.declared.ending.Ending.TheVariants.{BadCatalog, TooLong, ReadFault, Memory}
 use Rattle.xp_run.specs.declared.inputs.Inputs.{Inputs}

@@ -3,7 +3,6 @@ pub mod Answer
 pub mod Blocks
 pub mod Causes
 pub mod Evaluation
-pub mod FromLeft
 pub mod Inputs
 pub mod Integers
 pub mod LastLine

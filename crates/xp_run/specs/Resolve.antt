@@ -13,7 +13,7 @@ use Rattle.xp_catalog.specs.declared.rows.Volatility.TheVariants as volatility
 use Rattle.xp_grammar.specs.declared.ast.Ast.{Ast, fold-Ast}
 use Rattle.xp_grammar.specs.declared.ast.Ast.TheOpen.{Ast-F}
 use Rattle.xp_run.specs.Evaluation.{call_evaluation, constant_evaluation}
-use Rattle.xp_run.specs.FromLeft.{and_then}
+use Rattle.xp_base.specs.FromLeft.{and_then}
 use Rattle.xp_run.specs.Integers.{operation_at}
 use Rattle.xp_run.specs.declared.evaluation.Function.{Function}
 use Rattle.xp_run.specs.declared.value.Value.{Value}

@@ -1,7 +1,7 @@
 //! Analyses a statement: its refusal, or its expressions, ready to be evaluated.
 ghost use Rattle.std.specs.Prelude.{◌≡◌, Option, Some, IfOk};
 ghost use Rattle.xp_run.specs.Analysis as spec;
-ghost use Rattle.xp_run.specs.FromLeft.{each};
+ghost use Rattle.xp_base.specs.FromLeft.{each};
 ghost use Rattle.xp_run.specs.Resolve.{resolved};
 
 use crate::resolve::{Refusal, Typed, resolve};

@@ -1,5 +1,5 @@
 -- What the code asks of a candidate at each position before it looks at any of them (step 3.e).
-use Rattle.std.specs.Prelude.{◌<◌, ℕ, ◌+◌, List, [], ◌∷◌, Bool, true, false, ◌==◌, ◌&&◌, ◌||◌, not, cond, length, Option, Some, None, filter}
+use Rattle.std.specs.Prelude.{◌<◌, ℕ, ◌+◌, List, [], ◌∷◌, Bool, true, false, ◌&&◌, ◌||◌, not, cond, length, Option, Some, None, filter}
 use Rattle.std.specs.List.{zip, list_any, list_all}
 use Rattle.xp_overload.specs.Places.{slots_at}
 use Rattle.xp_overload.specs.Matches.{is_known}

@@ -1,6 +1,6 @@
 use Rattle.std.proofs.Common.{◌≡◌, drop}
 use Rattle.xp_run.specs.Analysis.{with_body}
-use Rattle.xp_run.specs.FromLeft.{each}
+use Rattle.xp_base.specs.FromLeft.{each}
 use Rattle.xp_run.proofs.Expressions.{with_those}
 use Rattle.xp_run.proofs.analysis.with_bodies.Given as goal
 
