@@ -1,5 +1,5 @@
 -- What is derived of plain tokens is well formed.
-use Rattle.std.proofs.Common.{◌≡◌, ℕ, zero, suc, Bool, true, false, ◌&&◌, ◌⊎◌, inl, inr, List, [], ◌∷◌, ◌++◌, map, Option, Some, None, refl, sym, ap, subst, ◌∙◌, take, length, ◌-◌, Result, Ok, Err, IfOk}
+use Rattle.std.proofs.Common.{◌≡◌, ℕ, zero, suc, Bool, true, false, ◌&&◌, inl, inr, List, [], ◌∷◌, ◌++◌, map, Some, None, refl, sym, ap, subst, ◌∙◌, take, length, ◌-◌, Ok, Err, IfOk}
 use Rattle.std.proofs.lemmas.Bool.{and_from, and_parts, false≢true}
 use Rattle.xp_base.specs.declared.numbers.Span.{Span}
 use Rattle.xp_token.specs.declared.token.Token.{Token}
@@ -8,11 +8,9 @@ use Rattle.xp_token.specs.declared.token.TokenKind.TheVariants as t
 use Rattle.xp_token.specs.declared.words.Word.TheVariants as w
 use Rattle.xp_token.specs.Lexemes.{seen, all_placed}
 use Rattle.xp_token.specs.Ended.{is_plain, are_plain}
-use Rattle.xp_grammar.specs.declared.kind.Class.{Class}
 use Rattle.xp_grammar.specs.declared.kind.Class.TheVariants.{Only}
 use Rattle.xp_grammar.specs.declared.kind.Kind.TheVariants as k
 use Rattle.xp_grammar.specs.Kinds.{kind, kind_of, has}
-use Rattle.xp_grammar.specs.declared.types.TypeName.{TypeName}
 use Rattle.xp_grammar.specs.declared.types.TypeWords.{TypeWords}
 use Rattle.xp_grammar.specs.declared.ast.Ast.{Ast, roll-Ast, map-Ast}
 use Rattle.xp_grammar.specs.declared.ast.Ast.TheVariants as e
@@ -20,15 +18,15 @@ use Rattle.xp_grammar.specs.declared.ast.Ast.TheFolds.{fold-roll-Ast, fold-roll-
 use Rattle.xp_grammar.specs.declared.ast.Ast.TheOpen.{Ast-F}
 use Rattle.xp_grammar.specs.declared.ast.TruthTest.TheVariants as tests
 use Rattle.xp_grammar.specs.declared.ast.Arm.{Arm, fold-Arm}
-use Rattle.xp_grammar.specs.declared.statement.Item.{Item as ItemAst}
 use Rattle.xp_grammar.specs.declared.statement.SelectArm.{SelectArm}
 use Rattle.xp_grammar.specs.declared.statement.Statement.{Statement as StatementAst}
-use Rattle.xp_grammar.specs.Table.{Level, Sym, Tok, Lev, Value, Word, Tree, Casted, Given, Trees, Lists, Cases, Spelled, Named, Labelled, Labels, Selected, Stated, Start, Tail, level, parts, made, on, turn, fits, joined, selected, one_whole, bracketed, at, name_of, one_word, test_of, selection_of, side_of, any_case, constant_at, sized, scaled, arm}
+use Rattle.xp_grammar.specs.Table.{Level, Sym, Tok, Lev, Value, Stated, Start, Tail, level, parts, on, turn, fits, one_whole, at, name_of, one_word, test_of, selection_of, side_of, any_case, constant_at, sized, scaled, arm}
 use Rattle.xp_grammar.specs.Table.{Level as l}
 use Rattle.xp_grammar.specs.Table.{Start as s}
 use Rattle.xp_grammar.specs.Table.{Tail as c}
 use Rattle.xp_grammar.specs.Grammar.{Derives}
 use Rattle.xp_grammar.specs.Reads.{IsStatement}
+use Rattle.xp_grammar.proofs.Built.{Operand, Of, value, AllOf, first_same, select_built, start_built, bracket_built, tail_built, derived_built}
 use Rattle.xp_parser.specs.Parses.{Answer, Answers, IsAnswer, words, parsed}
 use Rattle.xp_parser.proofs.Settled.{parsed_exact}
 use Rattle.xp_parser.specs.WellFormed.{node, both, is_expression, is_number, is_modifier, is_type, is_item, is_select, are_shown, all, listed, is_well_formed}
@@ -84,206 +82,174 @@ wholes_formed p (t.Number v true) (t.Number u false) d e h g = absurd (false≢t
 wholes_formed p (t.Number v false) b d e h g = absurd (false≢true d)
 wholes_formed p _ _ d e h g = refl
 
--- ---- what a level stands for
+-- ---- what a level stands for is well formed
 
-abbrev Expression : Type 0
-Expression = (x : Ast) × (is_expression x ≡ true)
+abbrev IsFormedOperand : Operand → Type 0
+IsFormedOperand (inl x) = is_expression x ≡ true
+IsFormedOperand (inr q) = (is_expression q.0 ≡ true) × (is_type q.1.1 ≡ true)
 
--- an expression, or one that ends in a type
-abbrev Operand : Type 0
-Operand = Expression ⊎ (Expression × (Span × ((n : TypeWords) × (is_type n ≡ true))))
+abbrev IsFormed : (m : Level) → Of m → Type 0
+IsFormed l.Statement o = is_well_formed o ≡ true
+IsFormed l.Selects o = (all (map is_select o.0) ≡ true) × (is_select o.1 ≡ true)
+IsFormed l.Items o = listed (map is_item o) ≡ true
+IsFormed l.Item o = is_item o ≡ true
+IsFormed l.Rows o = listed (map are_shown o) ≡ true
+IsFormed l.Shown o = are_shown o ≡ true
+IsFormed l.E11 o = IsFormedOperand o
+IsFormed l.Args o = all (map is_expression o.0) ≡ true
+IsFormed l.Arms o = listed (map is_arm o) ≡ true
+IsFormed l.Full o = is_type o ≡ true
+IsFormed l.Basic o = is_type o ≡ true
+IsFormed l.Typename o = Unit {0}
+IsFormed l.E0 o = is_expression o ≡ true
+IsFormed l.E1 o = is_expression o ≡ true
+IsFormed l.E2 o = is_expression o ≡ true
+IsFormed l.E3 o = is_expression o ≡ true
+IsFormed l.E4 o = is_expression o ≡ true
+IsFormed l.E5 o = is_expression o ≡ true
+IsFormed l.E6 o = is_expression o ≡ true
+IsFormed l.P o = is_expression o ≡ true
+IsFormed l.E7 o = is_expression o ≡ true
+IsFormed l.E8 o = is_expression o ≡ true
+IsFormed l.E9 o = is_expression o ≡ true
+IsFormed l.E10 o = is_expression o ≡ true
+IsFormed l.E12 o = is_expression o ≡ true
 
-abbrev operand : Operand → Value
-operand (inl x) = Tree x.0
-operand (inr q) = Casted q.0.0 q.1.0 q.1.1.0
+-- each token is a plain one of its class, and each level well formed
+abbrev AllFormed : (ss : List Sym) → AllOf ss → Type 0
+AllFormed [] os = Unit {0}
+AllFormed (Tok a ∷ ss) os = ((has a (kind os.0) ≡ true) × (is_plain (seen os.0.kind) ≡ true)) × AllFormed ss os.1
+AllFormed (Lev m ∷ ss) os = IsFormed m os.0 × AllFormed ss os.1
 
-abbrev Of : Level → Type 0
-Of l.Statement = (x : StatementAst) × (is_well_formed x ≡ true)
-Of l.Selects = ((xs : List SelectArm) × (all (map is_select xs) ≡ true)) × ((x : SelectArm) × (is_select x ≡ true))
-Of l.Items = (xs : List ItemAst) × (listed (map is_item xs) ≡ true)
-Of l.Item = (x : ItemAst) × (is_item x ≡ true)
-Of l.Rows = (xs : List (List Ast)) × (listed (map are_shown xs) ≡ true)
-Of l.Shown = (xs : List Ast) × (are_shown xs ≡ true)
-Of l.E11 = Operand
-Of l.Args = ((xs : List Ast) × (all (map is_expression xs) ≡ true)) × Bool
-Of l.Arms = (xs : List Arm) × (listed (map is_arm xs) ≡ true)
-Of l.Full = (n : TypeWords) × (is_type n ≡ true)
-Of l.Basic = (n : TypeWords) × (is_type n ≡ true)
-Of l.Typename = Span × TypeName
-Of _ = Expression
+select_formed : (arms : List SelectArm) (last : SelectArm) → all (map is_select arms) ≡ true → is_select last ≡ true → is_well_formed (select_built arms last).0 ≡ true
+unfolding select_built
+select_formed [] last h g = g
+select_formed (a ∷ []) last h g = all_more is_select (a ∷ []) last h g
+select_formed (a ∷ b ∷ arms) last h g = all_more is_select (a ∷ b ∷ arms) last h g
 
-abbrev value : (m : Level) → Of m → Value
-value l.Statement o = Stated o.0
-value l.Selects o = Selected (o.0.0 ++ o.1.0 ∷ [])
-value l.Items o = Labels o.0
-value l.Item o = Labelled o.0
-value l.Rows o = Lists o.0
-value l.Shown o = Trees o.0
-value l.E11 o = operand o
-value l.Args o = Given o.0.0 o.1
-value l.Arms o = Cases o.0
-value l.Full o = Named o.0
-value l.Basic o = Named o.0
-value l.Typename o = Spelled o.0 o.1
-value l.E0 o = Tree o.0
-value l.E1 o = Tree o.0
-value l.E2 o = Tree o.0
-value l.E3 o = Tree o.0
-value l.E4 o = Tree o.0
-value l.E5 o = Tree o.0
-value l.E6 o = Tree o.0
-value l.P o = Tree o.0
-value l.E7 o = Tree o.0
-value l.E8 o = Tree o.0
-value l.E9 o = Tree o.0
-value l.E10 o = Tree o.0
-value l.E12 o = Tree o.0
+start_formed : (x : Start) (os : AllOf (parts x)) → AllFormed (parts x) os → IsFormed (level x) (start_built x os).0
+unfolding start_built
+start_formed s.selects os h = select_formed os.0.0 os.0.1 h.0.0 h.0.1
+start_formed s.values os h = h.1.0
+start_formed s.store os h = two h.1.0 h.1.1.1.0
+start_formed s.describe os h = h.1.0
+start_formed s.explain os h = h.1.0
+start_formed s.explain_analyze os h = h.1.1.0
+start_formed s.select os h = (refl, h.1.0)
+start_formed s.first_item os h = one_listed _ h.0
+start_formed s.item os h = h.0
+start_formed s.item_as os h = h.0
+start_formed s.first_row os h = one_listed _ h.1.0
+start_formed s.first_shown os h = one_listed _ h.0
+start_formed s.one_or os h = h.0
+start_formed s.one_and os h = h.0
+start_formed s.not_free os h = h.0
+start_formed s.not os h = of_node _ (Ast-F.Not (at os.0) os.1.0) (e.rolls-Not (at os.0) os.1.0) h.1.0
+start_formed s.test_free os h = h.0
+start_formed s.is_truth os h = of_node _ (Ast-F.Is (at os.1.0) false (test_of os.1.1.0) os.0) (e.rolls-Is (at os.1.0) false (test_of os.1.1.0) os.0) h.0
+start_formed s.is_not_truth os h = of_node _ (Ast-F.Is (at os.1.0) true (test_of os.1.1.1.0) os.0) (e.rolls-Is (at os.1.0) true (test_of os.1.1.1.0) os.0) h.0
+start_formed s.isnull os h = of_node _ (Ast-F.Is (at os.1.0) false tests.Null os.0) (e.rolls-Is (at os.1.0) false tests.Null os.0) h.0
+start_formed s.notnull os h = of_node _ (Ast-F.Is (at os.1.0) true tests.Null os.0) (e.rolls-Is (at os.1.0) true tests.Null os.0) h.0
+start_formed s.is_distinct os h = of_node _ (Ast-F.IsDistinct (at os.1.0) false os.0 os.1.1.1.1.0) (e.rolls-IsDistinct (at os.1.0) false os.0 os.1.1.1.1.0) (two h.0 h.1.1.1.1.0)
+start_formed s.is_not_distinct os h = of_node _ (Ast-F.IsDistinct (at os.1.0) true os.0 os.1.1.1.1.1.0) (e.rolls-IsDistinct (at os.1.0) true os.0 os.1.1.1.1.1.0) (two h.0 h.1.1.1.1.1.0)
+start_formed s.compare_free os h = h.0
+start_formed s.compared os h = of_node _ (Ast-F.Compare (at os.1.0) (name_of os.1.0) os.0 os.1.1.0) (e.rolls-Compare (at os.1.0) (name_of os.1.0) os.0 os.1.1.0) (two h.0 h.1.1.0)
+start_formed s.range_free os h = h.0
+start_formed s.between os h = of_node _ (Ast-F.Between (at os.1.0) false os.0 os.1.1.0 os.1.1.1.1.0) (e.rolls-Between (at os.1.0) false os.0 os.1.1.0 os.1.1.1.1.0) (two (two h.0 h.1.1.0) h.1.1.1.1.0)
+start_formed s.not_between os h = of_node _ (Ast-F.Between (at os.1.1.0) true os.0 os.1.1.1.0 os.1.1.1.1.1.0) (e.rolls-Between (at os.1.1.0) true os.0 os.1.1.1.0 os.1.1.1.1.1.0) (two (two h.0 h.1.1.1.0) h.1.1.1.1.1.0)
+start_formed s.within os h = of_node _ (Ast-F.In (at os.1.0) false os.0 os.1.1.1.0) (e.rolls-In (at os.1.0) false os.0 os.1.1.1.0) (two h.0 h.1.1.1.0)
+start_formed s.not_within os h = of_node _ (Ast-F.In (at os.1.1.0) true os.0 os.1.1.1.1.0) (e.rolls-In (at os.1.1.0) true os.0 os.1.1.1.1.0) (two h.0 h.1.1.1.1.0)
+start_formed s.like os h = of_node _ (Ast-F.Like (at os.1.0) false (any_case os.1.0) os.0 os.1.1.0) (e.rolls-Like (at os.1.0) false (any_case os.1.0) os.0 os.1.1.0) (two h.0 h.1.1.0)
+start_formed s.not_like os h = of_node _ (Ast-F.Like (at os.1.1.0) true (any_case os.1.1.0) os.0 os.1.1.1.0) (e.rolls-Like (at os.1.1.0) true (any_case os.1.1.0) os.0 os.1.1.1.0) (two h.0 h.1.1.1.0)
+start_formed s.other_free os h = h.0
+start_formed s.other_prefix os h = h.0
+start_formed s.prefix os h = of_node _ (Ast-F.Prefix (at os.0) (name_of os.0) os.1.0) (e.rolls-Prefix (at os.0) (name_of os.0) os.1.0) h.1.0
+start_formed s.prefix_prefix os h = of_node _ (Ast-F.Prefix (at os.0) (name_of os.0) os.1.0) (e.rolls-Prefix (at os.0) (name_of os.0) os.1.0) h.1.0
+start_formed s.one_sum os h = h.0
+start_formed s.one_product os h = h.0
+start_formed s.one_power os h = h.0
+start_formed s.sign_free (inl x, os) h = h.0
+start_formed s.sign_free (inr q, os) h = of_node _ (Ast-F.Cast q.1.0 q.0 q.1.1) (e.rolls-Cast q.1.0 q.0 q.1.1) (two h.0.0 h.0.1)
+start_formed s.signed os h = of_node _ (Ast-F.Sign (at os.0) (name_of os.0) os.1.0) (e.rolls-Sign (at os.0) (name_of os.0) os.1.0) h.1.0
+start_formed s.operand os h = h.0
+start_formed s.constant os h = constant_formed (at os.0) os.0.kind h.0.1
+start_formed s.column os h = of_node _ (Ast-F.Column (at os.0) (name_of os.0)) (e.rolls-Column (at os.0) (name_of os.0)) refl
+start_formed s.typed_constant os h = of_node _ (Ast-F.Typed (one_word os.0) (at os.1.0) (name_of os.1.0)) (e.rolls-Typed (one_word os.0) (at os.1.0) (name_of os.1.0)) refl
+start_formed s.called_empty os h = of_node _ (Ast-F.Call (at os.0) (name_of os.0) [] false) (e.rolls-Call (at os.0) (name_of os.0) [] false) refl
+start_formed s.called os h = of_node _ (Ast-F.Call (at os.0) (name_of os.0) os.1.1.0.0 os.1.1.0.1) (e.rolls-Call (at os.0) (name_of os.0) os.1.1.0.0 os.1.1.0.1) h.1.1.0
+start_formed s.paren os h = of_node _ (Ast-F.Paren (at os.0) os.1.0) (e.rolls-Paren (at os.0) os.1.0) h.1.0
+start_formed s.cast_as os h = of_node _ (Ast-F.Cast (at os.0) os.1.1.0 os.1.1.1.1.0) (e.rolls-Cast (at os.0) os.1.1.0 os.1.1.1.1.0) (two h.1.1.0 h.1.1.1.1.0)
+start_formed s.cases os h = of_node _ (Ast-F.Case (at os.0) None os.1.0 None) (e.rolls-Case (at os.0) None os.1.0 None) (two (two refl h.1.0) refl)
+start_formed s.cases_else os h = of_node _ (Ast-F.Case (at os.0) None os.1.0 (Some os.1.1.1.0)) (e.rolls-Case (at os.0) None os.1.0 (Some os.1.1.1.0)) (two (two refl h.1.0) h.1.1.1.0)
+start_formed s.cases_of os h = of_node _ (Ast-F.Case (at os.0) (Some os.1.0) os.1.1.0 None) (e.rolls-Case (at os.0) (Some os.1.0) os.1.1.0 None) (two (two h.1.0 h.1.1.0) refl)
+start_formed s.cases_of_else os h = of_node _ (Ast-F.Case (at os.0) (Some os.1.0) os.1.1.0 (Some os.1.1.1.1.0)) (e.rolls-Case (at os.0) (Some os.1.0) os.1.1.0 (Some os.1.1.1.1.0)) (two (two h.1.0 h.1.1.0) h.1.1.1.1.0)
+start_formed s.selection os h = of_node _ (Ast-F.Selection (at os.0) (selection_of os.0) os.1.1.0) (e.rolls-Selection (at os.0) (selection_of os.0) os.1.1.0) h.1.1.0
+start_formed s.nullif os h = of_node _ (Ast-F.NullIf (at os.0) os.1.1.0 os.1.1.1.1.0) (e.rolls-NullIf (at os.0) os.1.1.0 os.1.1.1.1.0) (two h.1.1.0 h.1.1.1.1.0)
+start_formed s.array_empty os h = of_node _ (Ast-F.Array (at os.0) []) (e.rolls-Array (at os.0) []) refl
+start_formed s.array os h = of_node _ (Ast-F.Array (at os.0) os.1.1.0) (e.rolls-Array (at os.0) os.1.1.0) (listed_all (map is_expression os.1.1.0) h.1.1.0)
+start_formed s.position os h = of_node _ (Ast-F.Position (at os.0) os.1.1.0 os.1.1.1.1.0) (e.rolls-Position (at os.0) os.1.1.0 os.1.1.1.1.0) (two h.1.1.0 h.1.1.1.1.0)
+start_formed s.substring_one os h = of_node _ (Ast-F.Substring (at os.0) (os.1.1.0 ∷ [])) (e.rolls-Substring (at os.0) (os.1.1.0 ∷ [])) (one_listed _ h.1.1.0)
+start_formed s.substring_more os h = of_node _ (Ast-F.Substring (at os.0) (os.1.1.0 ∷ os.1.1.1.1.0)) (e.rolls-Substring (at os.0) (os.1.1.0 ∷ os.1.1.1.1.0)) (two h.1.1.0 (listed_all (map is_expression os.1.1.1.1.0) h.1.1.1.1.0))
+start_formed s.substring_from os h = of_node _ (Ast-F.SubstringFrom (at os.0) os.1.1.0 (Some os.1.1.1.1.0) None) (e.rolls-SubstringFrom (at os.0) os.1.1.0 (Some os.1.1.1.1.0) None) (two (two h.1.1.0 h.1.1.1.1.0) refl)
+start_formed s.substring_from_for os h = of_node _ (Ast-F.SubstringFrom (at os.0) os.1.1.0 (Some os.1.1.1.1.0) (Some os.1.1.1.1.1.1.0)) (e.rolls-SubstringFrom (at os.0) os.1.1.0 (Some os.1.1.1.1.0) (Some os.1.1.1.1.1.1.0)) (two (two h.1.1.0 h.1.1.1.1.0) h.1.1.1.1.1.1.0)
+start_formed s.substring_for os h = of_node _ (Ast-F.SubstringFrom (at os.0) os.1.1.0 None (Some os.1.1.1.1.0)) (e.rolls-SubstringFrom (at os.0) os.1.1.0 None (Some os.1.1.1.1.0)) (two (two h.1.1.0 refl) h.1.1.1.1.0)
+start_formed s.trim_from os h = of_node _ (Ast-F.TrimFrom (at os.0) None None os.1.1.1.0) (e.rolls-TrimFrom (at os.0) None None os.1.1.1.0) (two refl h.1.1.1.0)
+start_formed s.trim_set_from os h = of_node _ (Ast-F.TrimFrom (at os.0) None (Some os.1.1.0) os.1.1.1.1.0) (e.rolls-TrimFrom (at os.0) None (Some os.1.1.0) os.1.1.1.1.0) (two h.1.1.0 h.1.1.1.1.0)
+start_formed s.trim_side_from os h = of_node _ (Ast-F.TrimFrom (at os.0) (Some (side_of os.1.1.0)) None os.1.1.1.1.0) (e.rolls-TrimFrom (at os.0) (Some (side_of os.1.1.0)) None os.1.1.1.1.0) (two refl h.1.1.1.1.0)
+start_formed s.trim_side_set_from os h = of_node _ (Ast-F.TrimFrom (at os.0) (Some (side_of os.1.1.0)) (Some os.1.1.1.0) os.1.1.1.1.1.0) (e.rolls-TrimFrom (at os.0) (Some (side_of os.1.1.0)) (Some os.1.1.1.0) os.1.1.1.1.1.0) (two h.1.1.1.0 h.1.1.1.1.1.0)
+start_formed s.trim os h = of_node _ (Ast-F.Trim (at os.0) None os.1.1.0 None) (e.rolls-Trim (at os.0) None os.1.1.0 None) (two h.1.1.0 refl)
+start_formed s.trim_set os h = of_node _ (Ast-F.Trim (at os.0) None os.1.1.0 (Some os.1.1.1.1.0)) (e.rolls-Trim (at os.0) None os.1.1.0 (Some os.1.1.1.1.0)) (two h.1.1.0 h.1.1.1.1.0)
+start_formed s.trim_side os h = of_node _ (Ast-F.Trim (at os.0) (Some (side_of os.1.1.0)) os.1.1.1.0 None) (e.rolls-Trim (at os.0) (Some (side_of os.1.1.0)) os.1.1.1.0 None) (two h.1.1.1.0 refl)
+start_formed s.trim_side_set os h = of_node _ (Ast-F.Trim (at os.0) (Some (side_of os.1.1.0)) os.1.1.1.0 (Some os.1.1.1.1.1.0)) (e.rolls-Trim (at os.0) (Some (side_of os.1.1.0)) os.1.1.1.0 (Some os.1.1.1.1.1.0)) (two h.1.1.1.0 h.1.1.1.1.1.0)
+start_formed s.extract os h = of_node _ (Ast-F.Extract (at os.0) (at os.1.1.0) (name_of os.1.1.0) os.1.1.1.1.0) (e.rolls-Extract (at os.0) (at os.1.1.0) (name_of os.1.1.0) os.1.1.1.1.0) h.1.1.1.1.0
+start_formed s.one_arg os h = one_listed _ h.0
+start_formed s.variadic os h = one_listed _ h.1.0
+start_formed s.first_arm os h = one_listed _ (of_arm (at os.0) os.1.0 os.1.1.1.0 h.1.0 h.1.1.1.0)
+start_formed s.full_basic os h = h.0
+start_formed s.basic os h = refl
+start_formed s.basic_sized os h = whole_formed (at os.1.0) os.1.1.0.kind h.1.1.0.0 h.1.1.0.1
+start_formed s.basic_scaled os h = wholes_formed (at os.1.0) os.1.1.0.kind os.1.1.1.1.0.kind h.1.1.0.0 h.1.1.1.1.0.0 h.1.1.0.1 h.1.1.1.1.0.1
+start_formed s.plain_type os h = tt
+start_formed s.double_type os h = tt
+start_formed s.double_precision os h = tt
+start_formed s.character_type os h = tt
+start_formed s.character_varying os h = tt
+start_formed s.moment_type os h = tt
+start_formed s.moment_zoned os h = tt
 
--- a plain token of a class
-abbrev Of_class : Class → Type 0
-Of_class a = (t : Token) × ((has a (kind t) ≡ true) × (is_plain (seen t.kind) ≡ true))
+bracket_formed : (q : Ast × (Span × TypeWords)) (t : Token) (x : Ast) (b : Bool) → (is_expression q.0 ≡ true) × (is_type q.1.1 ≡ true) → is_expression x ≡ true → IsFormedOperand (bracket_built q t x b).0
+unfolding bracket_built
+bracket_formed q t x true h g = h
+bracket_formed q t x false h g =
+    let inner : is_expression (e.Cast q.1.0 q.0 q.1.1) ≡ true = of_node _ (Ast-F.Cast q.1.0 q.0 q.1.1) (e.rolls-Cast q.1.0 q.0 q.1.1) (two h.0 h.1) in
+    of_node _ (Ast-F.Subscript (at t) (e.Cast q.1.0 q.0 q.1.1) x) (e.rolls-Subscript (at t) (e.Cast q.1.0 q.0 q.1.1) x) (two inner g)
 
-abbrev AllOf : List Sym → Type 0
-AllOf [] = Unit {0}
-AllOf (Tok a ∷ ss) = Of_class a × AllOf ss
-AllOf (Lev m ∷ ss) = Of m × AllOf ss
-
-abbrev values : (ss : List Sym) → AllOf ss → List Value
-values [] os = []
-values (Tok a ∷ ss) os = Word os.0.0 ∷ values ss os.1
-values (Lev m ∷ ss) os = value m os.0 ∷ values ss os.1
-
-first_same : (x y : Value) (xs ys : List Value) → x ∷ xs ≡ y ∷ ys → x ≡ y
-first_same x y xs ys e = cc
-
-abbrev Built : Level → Value → Type 0
-Built m v = (o : Of m) × (v ≡ value m o)
-
-select_built : (before : (xs : List SelectArm) × (all (map is_select xs) ≡ true)) (last : (x : SelectArm) × (is_select x ≡ true)) → Built l.Statement (selected (before.0 ++ last.0 ∷ []))
-select_built ([], h) last = ((_, last.1), refl)
-select_built (a ∷ [], h) last = ((_, all_more is_select (a ∷ []) last.0 h last.1), refl)
-select_built (a ∷ b ∷ arms, h) last = ((_, all_more is_select (a ∷ b ∷ arms) last.0 h last.1), refl)
-
-start_built : (x : Start) (os : AllOf (parts x)) → Built (level x) (made x (values (parts x) os))
-start_built s.selects os = select_built os.0.0 os.0.1
-start_built s.values os = ((_, os.1.0.1), refl)
-start_built s.store os = ((_, two os.1.0.1 os.1.1.1.0.1), refl)
-start_built s.describe os = ((_, os.1.0.1), refl)
-start_built s.explain os = ((_, os.1.0.1), refl)
-start_built s.explain_analyze os = ((_, os.1.1.0.1), refl)
-start_built s.select os = ((([], refl), (_, os.1.0.1)), refl)
-start_built s.first_item os = ((_, one_listed _ os.0.1), refl)
-start_built s.item os = ((_, os.0.1), refl)
-start_built s.item_as os = ((_, os.0.1), refl)
-start_built s.first_row os = ((_, one_listed _ os.1.0.1), refl)
-start_built s.first_shown os = ((_, one_listed _ os.0.1), refl)
-start_built s.one_or os = (os.0, refl)
-start_built s.one_and os = (os.0, refl)
-start_built s.not_free os = (os.0, refl)
-start_built s.not os = ((_, of_node _ (Ast-F.Not (at os.0.0) os.1.0.0) (e.rolls-Not (at os.0.0) os.1.0.0) (os.1.0.1)), refl)
-start_built s.test_free os = (os.0, refl)
-start_built s.is_truth os = ((_, of_node _ (Ast-F.Is (at os.1.0.0) false (test_of os.1.1.0.0) os.0.0) (e.rolls-Is (at os.1.0.0) false (test_of os.1.1.0.0) os.0.0) (os.0.1)), refl)
-start_built s.is_not_truth os = ((_, of_node _ (Ast-F.Is (at os.1.0.0) true (test_of os.1.1.1.0.0) os.0.0) (e.rolls-Is (at os.1.0.0) true (test_of os.1.1.1.0.0) os.0.0) (os.0.1)), refl)
-start_built s.isnull os = ((_, of_node _ (Ast-F.Is (at os.1.0.0) false tests.Null os.0.0) (e.rolls-Is (at os.1.0.0) false tests.Null os.0.0) (os.0.1)), refl)
-start_built s.notnull os = ((_, of_node _ (Ast-F.Is (at os.1.0.0) true tests.Null os.0.0) (e.rolls-Is (at os.1.0.0) true tests.Null os.0.0) (os.0.1)), refl)
-start_built s.is_distinct os = ((_, of_node _ (Ast-F.IsDistinct (at os.1.0.0) false os.0.0 os.1.1.1.1.0.0) (e.rolls-IsDistinct (at os.1.0.0) false os.0.0 os.1.1.1.1.0.0) (two os.0.1 os.1.1.1.1.0.1)), refl)
-start_built s.is_not_distinct os = ((_, of_node _ (Ast-F.IsDistinct (at os.1.0.0) true os.0.0 os.1.1.1.1.1.0.0) (e.rolls-IsDistinct (at os.1.0.0) true os.0.0 os.1.1.1.1.1.0.0) (two os.0.1 os.1.1.1.1.1.0.1)), refl)
-start_built s.compare_free os = (os.0, refl)
-start_built s.compared os = ((_, of_node _ (Ast-F.Compare (at os.1.0.0) (name_of os.1.0.0) os.0.0 os.1.1.0.0) (e.rolls-Compare (at os.1.0.0) (name_of os.1.0.0) os.0.0 os.1.1.0.0) (two os.0.1 os.1.1.0.1)), refl)
-start_built s.range_free os = (os.0, refl)
-start_built s.between os = ((_, of_node _ (Ast-F.Between (at os.1.0.0) false os.0.0 os.1.1.0.0 os.1.1.1.1.0.0) (e.rolls-Between (at os.1.0.0) false os.0.0 os.1.1.0.0 os.1.1.1.1.0.0) (two (two os.0.1 os.1.1.0.1) os.1.1.1.1.0.1)), refl)
-start_built s.not_between os = ((_, of_node _ (Ast-F.Between (at os.1.1.0.0) true os.0.0 os.1.1.1.0.0 os.1.1.1.1.1.0.0) (e.rolls-Between (at os.1.1.0.0) true os.0.0 os.1.1.1.0.0 os.1.1.1.1.1.0.0) (two (two os.0.1 os.1.1.1.0.1) os.1.1.1.1.1.0.1)), refl)
-start_built s.within os = ((_, of_node _ (Ast-F.In (at os.1.0.0) false os.0.0 os.1.1.1.0.0) (e.rolls-In (at os.1.0.0) false os.0.0 os.1.1.1.0.0) (two os.0.1 os.1.1.1.0.1)), refl)
-start_built s.not_within os = ((_, of_node _ (Ast-F.In (at os.1.1.0.0) true os.0.0 os.1.1.1.1.0.0) (e.rolls-In (at os.1.1.0.0) true os.0.0 os.1.1.1.1.0.0) (two os.0.1 os.1.1.1.1.0.1)), refl)
-start_built s.like os = ((_, of_node _ (Ast-F.Like (at os.1.0.0) false (any_case os.1.0.0) os.0.0 os.1.1.0.0) (e.rolls-Like (at os.1.0.0) false (any_case os.1.0.0) os.0.0 os.1.1.0.0) (two os.0.1 os.1.1.0.1)), refl)
-start_built s.not_like os = ((_, of_node _ (Ast-F.Like (at os.1.1.0.0) true (any_case os.1.1.0.0) os.0.0 os.1.1.1.0.0) (e.rolls-Like (at os.1.1.0.0) true (any_case os.1.1.0.0) os.0.0 os.1.1.1.0.0) (two os.0.1 os.1.1.1.0.1)), refl)
-start_built s.other_free os = (os.0, refl)
-start_built s.other_prefix os = (os.0, refl)
-start_built s.prefix os = ((_, of_node _ (Ast-F.Prefix (at os.0.0) (name_of os.0.0) os.1.0.0) (e.rolls-Prefix (at os.0.0) (name_of os.0.0) os.1.0.0) (os.1.0.1)), refl)
-start_built s.prefix_prefix os = ((_, of_node _ (Ast-F.Prefix (at os.0.0) (name_of os.0.0) os.1.0.0) (e.rolls-Prefix (at os.0.0) (name_of os.0.0) os.1.0.0) (os.1.0.1)), refl)
-start_built s.one_sum os = (os.0, refl)
-start_built s.one_product os = (os.0, refl)
-start_built s.one_power os = (os.0, refl)
-start_built s.sign_free (inl x, os) = (x, refl)
-start_built s.sign_free (inr q, os) = ((_, of_node _ (Ast-F.Cast q.1.0 q.0.0 q.1.1.0) (e.rolls-Cast q.1.0 q.0.0 q.1.1.0) (two q.0.1 q.1.1.1)), refl)
-start_built s.signed os = ((_, of_node _ (Ast-F.Sign (at os.0.0) (name_of os.0.0) os.1.0.0) (e.rolls-Sign (at os.0.0) (name_of os.0.0) os.1.0.0) (os.1.0.1)), refl)
-start_built s.operand os = (inl os.0, refl)
-start_built s.constant os = ((_, constant_formed (at os.0.0) os.0.0.kind os.0.1.1), refl)
-start_built s.column os = ((_, of_node _ (Ast-F.Column (at os.0.0) (name_of os.0.0)) (e.rolls-Column (at os.0.0) (name_of os.0.0)) (refl)), refl)
-start_built s.typed_constant os = ((_, of_node _ (Ast-F.Typed (one_word os.0.0) (at os.1.0.0) (name_of os.1.0.0)) (e.rolls-Typed (one_word os.0.0) (at os.1.0.0) (name_of os.1.0.0)) (refl)), refl)
-start_built s.called_empty os = ((_, of_node _ (Ast-F.Call (at os.0.0) (name_of os.0.0) [] false) (e.rolls-Call (at os.0.0) (name_of os.0.0) [] false) (refl)), refl)
-start_built s.called os = ((_, of_node _ (Ast-F.Call (at os.0.0) (name_of os.0.0) os.1.1.0.0.0 os.1.1.0.1) (e.rolls-Call (at os.0.0) (name_of os.0.0) os.1.1.0.0.0 os.1.1.0.1) (os.1.1.0.0.1)), refl)
-start_built s.paren os = ((_, of_node _ (Ast-F.Paren (at os.0.0) os.1.0.0) (e.rolls-Paren (at os.0.0) os.1.0.0) (os.1.0.1)), refl)
-start_built s.cast_as os = ((_, of_node _ (Ast-F.Cast (at os.0.0) os.1.1.0.0 os.1.1.1.1.0.0) (e.rolls-Cast (at os.0.0) os.1.1.0.0 os.1.1.1.1.0.0) (two os.1.1.0.1 os.1.1.1.1.0.1)), refl)
-start_built s.cases os = ((_, of_node _ (Ast-F.Case (at os.0.0) None os.1.0.0 None) (e.rolls-Case (at os.0.0) None os.1.0.0 None) (two (two refl os.1.0.1) refl)), refl)
-start_built s.cases_else os = ((_, of_node _ (Ast-F.Case (at os.0.0) None os.1.0.0 (Some os.1.1.1.0.0)) (e.rolls-Case (at os.0.0) None os.1.0.0 (Some os.1.1.1.0.0)) (two (two refl os.1.0.1) os.1.1.1.0.1)), refl)
-start_built s.cases_of os = ((_, of_node _ (Ast-F.Case (at os.0.0) (Some os.1.0.0) os.1.1.0.0 None) (e.rolls-Case (at os.0.0) (Some os.1.0.0) os.1.1.0.0 None) (two (two os.1.0.1 os.1.1.0.1) refl)), refl)
-start_built s.cases_of_else os = ((_, of_node _ (Ast-F.Case (at os.0.0) (Some os.1.0.0) os.1.1.0.0 (Some os.1.1.1.1.0.0)) (e.rolls-Case (at os.0.0) (Some os.1.0.0) os.1.1.0.0 (Some os.1.1.1.1.0.0)) (two (two os.1.0.1 os.1.1.0.1) os.1.1.1.1.0.1)), refl)
-start_built s.selection os = ((_, of_node _ (Ast-F.Selection (at os.0.0) (selection_of os.0.0) os.1.1.0.0) (e.rolls-Selection (at os.0.0) (selection_of os.0.0) os.1.1.0.0) (os.1.1.0.1)), refl)
-start_built s.nullif os = ((_, of_node _ (Ast-F.NullIf (at os.0.0) os.1.1.0.0 os.1.1.1.1.0.0) (e.rolls-NullIf (at os.0.0) os.1.1.0.0 os.1.1.1.1.0.0) (two os.1.1.0.1 os.1.1.1.1.0.1)), refl)
-start_built s.array_empty os = ((_, of_node _ (Ast-F.Array (at os.0.0) []) (e.rolls-Array (at os.0.0) []) (refl)), refl)
-start_built s.array os = ((_, of_node _ (Ast-F.Array (at os.0.0) os.1.1.0.0) (e.rolls-Array (at os.0.0) os.1.1.0.0) (listed_all (map is_expression os.1.1.0.0) os.1.1.0.1)), refl)
-start_built s.position os = ((_, of_node _ (Ast-F.Position (at os.0.0) os.1.1.0.0 os.1.1.1.1.0.0) (e.rolls-Position (at os.0.0) os.1.1.0.0 os.1.1.1.1.0.0) (two os.1.1.0.1 os.1.1.1.1.0.1)), refl)
-start_built s.substring_one os = ((_, of_node _ (Ast-F.Substring (at os.0.0) (os.1.1.0.0 ∷ [])) (e.rolls-Substring (at os.0.0) (os.1.1.0.0 ∷ [])) (one_listed _ os.1.1.0.1)), refl)
-start_built s.substring_more os = ((_, of_node _ (Ast-F.Substring (at os.0.0) (os.1.1.0.0 ∷ os.1.1.1.1.0.0)) (e.rolls-Substring (at os.0.0) (os.1.1.0.0 ∷ os.1.1.1.1.0.0)) (two os.1.1.0.1 (listed_all (map is_expression os.1.1.1.1.0.0) os.1.1.1.1.0.1))), refl)
-start_built s.substring_from os = ((_, of_node _ (Ast-F.SubstringFrom (at os.0.0) os.1.1.0.0 (Some os.1.1.1.1.0.0) None) (e.rolls-SubstringFrom (at os.0.0) os.1.1.0.0 (Some os.1.1.1.1.0.0) None) (two (two os.1.1.0.1 os.1.1.1.1.0.1) refl)), refl)
-start_built s.substring_from_for os = ((_, of_node _ (Ast-F.SubstringFrom (at os.0.0) os.1.1.0.0 (Some os.1.1.1.1.0.0) (Some os.1.1.1.1.1.1.0.0)) (e.rolls-SubstringFrom (at os.0.0) os.1.1.0.0 (Some os.1.1.1.1.0.0) (Some os.1.1.1.1.1.1.0.0)) (two (two os.1.1.0.1 os.1.1.1.1.0.1) os.1.1.1.1.1.1.0.1)), refl)
-start_built s.substring_for os = ((_, of_node _ (Ast-F.SubstringFrom (at os.0.0) os.1.1.0.0 None (Some os.1.1.1.1.0.0)) (e.rolls-SubstringFrom (at os.0.0) os.1.1.0.0 None (Some os.1.1.1.1.0.0)) (two (two os.1.1.0.1 refl) os.1.1.1.1.0.1)), refl)
-start_built s.trim_from os = ((_, of_node _ (Ast-F.TrimFrom (at os.0.0) None None os.1.1.1.0.0) (e.rolls-TrimFrom (at os.0.0) None None os.1.1.1.0.0) (two refl os.1.1.1.0.1)), refl)
-start_built s.trim_set_from os = ((_, of_node _ (Ast-F.TrimFrom (at os.0.0) None (Some os.1.1.0.0) os.1.1.1.1.0.0) (e.rolls-TrimFrom (at os.0.0) None (Some os.1.1.0.0) os.1.1.1.1.0.0) (two os.1.1.0.1 os.1.1.1.1.0.1)), refl)
-start_built s.trim_side_from os = ((_, of_node _ (Ast-F.TrimFrom (at os.0.0) (Some (side_of os.1.1.0.0)) None os.1.1.1.1.0.0) (e.rolls-TrimFrom (at os.0.0) (Some (side_of os.1.1.0.0)) None os.1.1.1.1.0.0) (two refl os.1.1.1.1.0.1)), refl)
-start_built s.trim_side_set_from os = ((_, of_node _ (Ast-F.TrimFrom (at os.0.0) (Some (side_of os.1.1.0.0)) (Some os.1.1.1.0.0) os.1.1.1.1.1.0.0) (e.rolls-TrimFrom (at os.0.0) (Some (side_of os.1.1.0.0)) (Some os.1.1.1.0.0) os.1.1.1.1.1.0.0) (two os.1.1.1.0.1 os.1.1.1.1.1.0.1)), refl)
-start_built s.trim os = ((_, of_node _ (Ast-F.Trim (at os.0.0) None os.1.1.0.0 None) (e.rolls-Trim (at os.0.0) None os.1.1.0.0 None) (two os.1.1.0.1 refl)), refl)
-start_built s.trim_set os = ((_, of_node _ (Ast-F.Trim (at os.0.0) None os.1.1.0.0 (Some os.1.1.1.1.0.0)) (e.rolls-Trim (at os.0.0) None os.1.1.0.0 (Some os.1.1.1.1.0.0)) (two os.1.1.0.1 os.1.1.1.1.0.1)), refl)
-start_built s.trim_side os = ((_, of_node _ (Ast-F.Trim (at os.0.0) (Some (side_of os.1.1.0.0)) os.1.1.1.0.0 None) (e.rolls-Trim (at os.0.0) (Some (side_of os.1.1.0.0)) os.1.1.1.0.0 None) (two os.1.1.1.0.1 refl)), refl)
-start_built s.trim_side_set os = ((_, of_node _ (Ast-F.Trim (at os.0.0) (Some (side_of os.1.1.0.0)) os.1.1.1.0.0 (Some os.1.1.1.1.1.0.0)) (e.rolls-Trim (at os.0.0) (Some (side_of os.1.1.0.0)) os.1.1.1.0.0 (Some os.1.1.1.1.1.0.0)) (two os.1.1.1.0.1 os.1.1.1.1.1.0.1)), refl)
-start_built s.extract os = ((_, of_node _ (Ast-F.Extract (at os.0.0) (at os.1.1.0.0) (name_of os.1.1.0.0) os.1.1.1.1.0.0) (e.rolls-Extract (at os.0.0) (at os.1.1.0.0) (name_of os.1.1.0.0) os.1.1.1.1.0.0) (os.1.1.1.1.0.1)), refl)
-start_built s.one_arg os = (((_, one_listed _ os.0.1), _), refl)
-start_built s.variadic os = (((_, one_listed _ os.1.0.1), _), refl)
-start_built s.first_arm os = ((_, one_listed _ (of_arm (at os.0.0) os.1.0.0 os.1.1.1.0.0 os.1.0.1 os.1.1.1.0.1)), refl)
-start_built s.full_basic os = (os.0, refl)
-start_built s.basic os = ((_, refl), refl)
-start_built s.basic_sized os = ((_, whole_formed (at os.1.0.0) os.1.1.0.0.kind os.1.1.0.1.0 os.1.1.0.1.1), refl)
-start_built s.basic_scaled os = ((_, wholes_formed (at os.1.0.0) os.1.1.0.0.kind os.1.1.1.1.0.0.kind os.1.1.0.1.0 os.1.1.1.1.0.1.0 os.1.1.0.1.1 os.1.1.1.1.0.1.1), refl)
-start_built s.plain_type os = ((_, _), refl)
-start_built s.double_type os = ((_, _), refl)
-start_built s.double_precision os = ((_, _), refl)
-start_built s.character_type os = ((_, _), refl)
-start_built s.character_varying os = ((_, _), refl)
-start_built s.moment_type os = ((_, _), refl)
-start_built s.moment_zoned os = ((_, _), refl)
-
-tail_built : (x : Tail) (o : Of (on x)) (us : List Token) (os : AllOf (turn x)) → fits x (value (on x) o) ≡ true → Built (on x) (joined x (value (on x) o) us (values (turn x) os))
-tail_built c.union o us os h = (((o.0.0 ++ o.1.0 ∷ [], all_more is_select o.0.0 o.1.0 o.0.1 o.1.1), (_, os.1.1.1.0.1)), refl)
-tail_built c.next_item o us os h = ((_, listed_more is_item o.0 os.1.0.0 o.1 os.1.0.1), refl)
-tail_built c.next_row o us os h = ((_, listed_more are_shown o.0 os.1.1.0.0 o.1 os.1.1.0.1), refl)
-tail_built c.next_shown o us os h = ((_, listed_more is_expression o.0 os.1.0.0 o.1 os.1.0.1), refl)
-tail_built c.or o us os h = ((_, of_node _ (Ast-F.Or (at os.0.0) o.0 os.1.0.0) (e.rolls-Or (at os.0.0) o.0 os.1.0.0) (two o.1 os.1.0.1)), refl)
-tail_built c.and o us os h = ((_, of_node _ (Ast-F.And (at os.0.0) o.0 os.1.0.0) (e.rolls-And (at os.0.0) o.0 os.1.0.0) (two o.1 os.1.0.1)), refl)
-tail_built c.other_then o us os h = ((_, of_node _ (Ast-F.Other (at os.0.0) (name_of os.0.0) o.0 os.1.0.0) (e.rolls-Other (at os.0.0) (name_of os.0.0) o.0 os.1.0.0) (two o.1 os.1.0.1)), refl)
-tail_built c.other_then_prefix o us os h = ((_, of_node _ (Ast-F.Other (at os.0.0) (name_of os.0.0) o.0 os.1.0.0) (e.rolls-Other (at os.0.0) (name_of os.0.0) o.0 os.1.0.0) (two o.1 os.1.0.1)), refl)
-tail_built c.added o us os h = ((_, of_node _ (Ast-F.Sum (at os.0.0) (name_of os.0.0) o.0 os.1.0.0) (e.rolls-Sum (at os.0.0) (name_of os.0.0) o.0 os.1.0.0) (two o.1 os.1.0.1)), refl)
-tail_built c.multiplied o us os h = ((_, of_node _ (Ast-F.Product (at os.0.0) (name_of os.0.0) o.0 os.1.0.0) (e.rolls-Product (at os.0.0) (name_of os.0.0) o.0 os.1.0.0) (two o.1 os.1.0.1)), refl)
-tail_built c.raised o us os h = ((_, of_node _ (Ast-F.Power (at os.0.0) (name_of os.0.0) o.0 os.1.0.0) (e.rolls-Power (at os.0.0) (name_of os.0.0) o.0 os.1.0.0) (two o.1 os.1.0.1)), refl)
-tail_built c.cast (inl a) us os h = (inr (a, (at os.0.0, os.1.0)), refl)
-tail_built c.cast (inr q) us os h = (inr ((e.Cast q.1.0 q.0.0 q.1.1.0, of_node _ (Ast-F.Cast q.1.0 q.0.0 q.1.1.0) (e.rolls-Cast q.1.0 q.0.0 q.1.1.0) (two q.0.1 q.1.1.1)), (at os.0.0, os.1.0)), refl)
-tail_built c.empty_brackets (inl a) us os h = absurd cc
-tail_built c.empty_brackets (inr q) us os h = (inr (q.0, (q.1.0, (_, q.1.1.1))), refl)
-tail_built c.brackets (inl a) us os h = (inl (_, of_node _ (Ast-F.Subscript (at os.0.0) a.0 os.1.0.0) (e.rolls-Subscript (at os.0.0) a.0 os.1.0.0) (two a.1 os.1.0.1)), refl)
-tail_built c.brackets (inr q) us os h = by (one_whole us)
-  where
-    by : (b : Bool) → Built l.E11 (bracketed (Casted q.0.0 q.1.0 q.1.1.0) b (Word os.0.0 ∷ Tree os.1.0.0 ∷ []))
-    by true = (inr (q.0, (q.1.0, (_, q.1.1.1))), refl)
-    by false =
-        let inner : is_expression (e.Cast q.1.0 q.0.0 q.1.1.0) ≡ true = of_node _ (Ast-F.Cast q.1.0 q.0.0 q.1.1.0) (e.rolls-Cast q.1.0 q.0.0 q.1.1.0) (two q.0.1 q.1.1.1) in
-        (inl (_, of_node _ (Ast-F.Subscript (at os.0.0) (e.Cast q.1.0 q.0.0 q.1.1.0) os.1.0.0) (e.rolls-Subscript (at os.0.0) (e.Cast q.1.0 q.0.0 q.1.1.0) os.1.0.0) (two inner os.1.0.1)), refl)
-tail_built c.next_one (all, true) us os h = absurd cc
-tail_built c.next_one (all, false) us os h = (((_, all_more is_expression all.0 os.1.0.0 all.1 os.1.0.1), _), refl)
-tail_built c.next_variadic (all, true) us os h = absurd cc
-tail_built c.next_variadic (all, false) us os h = (((_, all_more is_expression all.0 os.1.1.0.0 all.1 os.1.1.0.1), _), refl)
-tail_built c.next_arm o us os h = ((_, listed_more is_arm o.0 (arm (at os.0.0) os.1.0.0 os.1.1.1.0.0) o.1 (of_arm (at os.0.0) os.1.0.0 os.1.1.1.0.0 os.1.0.1 os.1.1.1.0.1)), refl)
-tail_built c.full_pair o us os h = ((_, o.1), refl)
-tail_built c.full_sized_pair o us os h = ((_, o.1), refl)
+tail_formed : (x : Tail) (o : Of (on x)) (us : List Token) (os : AllOf (turn x)) (f : fits x (value (on x) o) ≡ true) → IsFormed (on x) o → AllFormed (turn x) os → IsFormed (on x) (tail_built x o us os f).0
+unfolding tail_built
+tail_formed c.union o us os f k h = (all_more is_select o.0 o.1 k.0 k.1, h.1.1.1.0)
+tail_formed c.next_item o us os f k h = listed_more is_item o os.1.0 k h.1.0
+tail_formed c.next_row o us os f k h = listed_more are_shown o os.1.1.0 k h.1.1.0
+tail_formed c.next_shown o us os f k h = listed_more is_expression o os.1.0 k h.1.0
+tail_formed c.or o us os f k h = of_node _ (Ast-F.Or (at os.0) o os.1.0) (e.rolls-Or (at os.0) o os.1.0) (two k h.1.0)
+tail_formed c.and o us os f k h = of_node _ (Ast-F.And (at os.0) o os.1.0) (e.rolls-And (at os.0) o os.1.0) (two k h.1.0)
+tail_formed c.other_then o us os f k h = of_node _ (Ast-F.Other (at os.0) (name_of os.0) o os.1.0) (e.rolls-Other (at os.0) (name_of os.0) o os.1.0) (two k h.1.0)
+tail_formed c.other_then_prefix o us os f k h = of_node _ (Ast-F.Other (at os.0) (name_of os.0) o os.1.0) (e.rolls-Other (at os.0) (name_of os.0) o os.1.0) (two k h.1.0)
+tail_formed c.added o us os f k h = of_node _ (Ast-F.Sum (at os.0) (name_of os.0) o os.1.0) (e.rolls-Sum (at os.0) (name_of os.0) o os.1.0) (two k h.1.0)
+tail_formed c.multiplied o us os f k h = of_node _ (Ast-F.Product (at os.0) (name_of os.0) o os.1.0) (e.rolls-Product (at os.0) (name_of os.0) o os.1.0) (two k h.1.0)
+tail_formed c.raised o us os f k h = of_node _ (Ast-F.Power (at os.0) (name_of os.0) o os.1.0) (e.rolls-Power (at os.0) (name_of os.0) o os.1.0) (two k h.1.0)
+tail_formed c.cast (inl x) us os f k h = (k, h.1.0)
+tail_formed c.cast (inr q) us os f k h = (of_node _ (Ast-F.Cast q.1.0 q.0 q.1.1) (e.rolls-Cast q.1.0 q.0 q.1.1) (two k.0 k.1), h.1.0)
+tail_formed c.empty_brackets (inl x) us os f k h = absurd cc
+tail_formed c.empty_brackets (inr q) us os f k h = k
+tail_formed c.brackets (inl x) us os f k h = of_node _ (Ast-F.Subscript (at os.0) x os.1.0) (e.rolls-Subscript (at os.0) x os.1.0) (two k h.1.0)
+tail_formed c.brackets (inr q) us os f k h = bracket_formed q os.0 os.1.0 (one_whole us) k h.1.0
+tail_formed c.next_one (xs, true) us os f k h = absurd cc
+tail_formed c.next_one (xs, false) us os f k h = all_more is_expression xs os.1.0 k h.1.0
+tail_formed c.next_variadic (xs, true) us os f k h = absurd cc
+tail_formed c.next_variadic (xs, false) us os f k h = all_more is_expression xs os.1.1.0 k h.1.1.0
+tail_formed c.next_arm o us os f k h = listed_more is_arm o (arm (at os.0) os.1.0 os.1.1.1.0) k (of_arm (at os.0) os.1.0 os.1.1.1.0 h.1.0 h.1.1.1.0)
+tail_formed c.full_pair o us os f k h = k
+tail_formed c.full_sized_pair o us os f k h = k
 
 -- ---- plain tokens
 
@@ -299,26 +265,21 @@ plain_behind : (ts us : List Token) → Plain (ts ++ us) → Plain us
 plain_behind [] us h = h
 plain_behind (t ∷ ts) us h = plain_behind ts us h.1
 
-derived_built : {ss : List Sym} {ts : List Token} {vs : List Value} → Derives ss ts vs → Plain ts → (os : AllOf ss) × (vs ≡ values ss os)
-derived_built Derives.none h = (tt, refl)
-derived_built (Derives.token a t k d) h = let r = derived_built d h.1 in (((t, (k, h.0)), r.0), ap (λ z. Word t ∷ z) r.1)
-derived_built (Derives.begins {ss = ss} {us = us} {ts = ts} {ws = ws} {vs = vs} x d e) h =
-    let below = derived_built d (plain_front us ts h) in
-    let beside = derived_built e (plain_behind us ts h) in
-    let here = start_built x below.0 in
-    ((here.0, beside.0), ap (λ z. made x z ∷ vs) below.1 ∙ ap (λ z. z ∷ vs) here.1 ∙ ap (λ z. value (level x) here.0 ∷ z) beside.1)
-derived_built (Derives.goes_on {fs = fs} {us = us} {ts = ts} {v = v} {ws = ws} {vs = vs} x d f g e) h =
+derived_formed : {ss : List Sym} {ts : List Token} {vs : List Value} (d : Derives ss ts vs) → Plain ts → AllFormed ss (derived_built d).0
+unfolding derived_built
+derived_formed Derives.none h = tt
+derived_formed (Derives.token a t k d) h = ((k, h.0), derived_formed d h.1)
+derived_formed (Derives.begins {us = us} {ts = ts} x d e) h =
+    (start_formed x (derived_built d).0 (derived_formed d (plain_front us ts h)), derived_formed e (plain_behind us ts h))
+derived_formed (Derives.goes_on {fs = fs} {us = us} {ts = ts} x d f g e) h =
     let front = plain_front (fs ++ us) ts h in
-    let before = derived_built d (plain_front fs us front) in
-    let same : v ≡ value (on x) before.0.0 = first_same v (value (on x) before.0.0) [] [] before.1 in
-    let behind = derived_built g (plain_behind fs us front) in
-    let beside = derived_built e (plain_behind (fs ++ us) ts h) in
-    let here = tail_built x before.0.0 us behind.0 (ap (fits x) (sym same) ∙ f) in
-    ((here.0, beside.0), ap (λ z. joined x z us ws ∷ vs) same ∙ ap (λ z. joined x (value (on x) before.0.0) us z ∷ vs) behind.1 ∙ ap (λ z. z ∷ vs) here.1 ∙ ap (λ z. value (on x) here.0 ∷ z) beside.1)
+    (tail_formed x (derived_built d).0.0 us (derived_built g).0 _ (derived_formed d (plain_front fs us front)).0 (derived_formed g (plain_behind fs us front)), derived_formed e (plain_behind (fs ++ us) ts h))
 
 -- what is derived of plain tokens as a statement is well formed
 statement_formed : (ts : List Token) (x : StatementAst) → IsStatement ts (Stated x) → Plain ts → is_well_formed x ≡ true
-statement_formed ts x d h = let r = derived_built d h in subst (λ y. is_well_formed y ≡ true) (same_statement r.0.0.0 x (sym (first_same (Stated x) (Stated r.0.0.0) [] [] r.1))) r.0.0.1
+statement_formed ts x d h =
+    let built = derived_built d in
+    subst (λ y. is_well_formed y ≡ true) (same_statement built.0.0 x (sym (first_same (Stated x) (Stated built.0.0) [] [] built.1))) (derived_formed d h).0
   where
     same_statement : (a b : StatementAst) → Stated a ≡ Stated b → a ≡ b
     same_statement a b e = cc
@@ -332,7 +293,7 @@ plain_taken zero ts h = tt
 plain_taken (suc n) [] h = tt
 plain_taken (suc n) (t ∷ ts) h = (h.0, plain_taken n ts h.1)
 
-pub formed_of : (ts : List Token) (r : Answer) → Answers r (parsed ts) → IfOk r (λ x. are_plain (all_placed ts) ≡ true → is_well_formed x ≡ true)
+pub formed_of : (ts : List Token) (r : Answer) → Answers (parsed ts) r → IfOk r (λ x. are_plain (all_placed ts) ≡ true → is_well_formed x ≡ true)
 formed_of ts (Err fault) e = tt
 formed_of ts (Ok x) e = λ plain. by plain (subst (IsAnswer ts) e (parsed_exact ts))
   where

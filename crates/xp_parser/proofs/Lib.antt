@@ -1,5 +1,4 @@
 pub mod ChainLaws
-pub mod Deep
 pub mod Ended
 pub mod Formed
 pub mod ListLaws

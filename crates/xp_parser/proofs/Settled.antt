@@ -13,9 +13,9 @@ use Rattle.xp_grammar.proofs.Prefix.{begun, fault_is_err}
 use Rattle.xp_grammar.proofs.Built.{statement_built}
 use Rattle.xp_parser.specs.declared.fault.ParseFault.{ParseFault}
 use Rattle.xp_parser.specs.declared.fault.ParseFault.TheVariants.{Syntax, TooDeep, Memory}
-use Rattle.xp_parser.specs.Depth.{depth, first_deep}
+use Rattle.xp_depth.specs.Depth.{depth, first_deep}
 use Rattle.xp_parser.specs.Parses.{Answer, Answers, IsAnswer, IsRight, words, start_at, settled, settled_deep, parsed_by, parsed}
-use Rattle.xp_parser.proofs.Deep.{first_deep_is, first_deep_none, none_first_deep, some_first_deep, shorter_shallow}
+use Rattle.xp_depth.proofs.Deep.{first_deep_is, first_deep_none, none_first_deep, some_first_deep, shorter_shallow}
 
 -- the list up to and with a token
 cut_at : (ts before after : List Token) (t : Token) (i : ℕ) → ts ≡ before ++ t ∷ after → i ≡ length before → take (i + 1) ts ≡ before ++ t ∷ []
@@ -151,14 +151,14 @@ answer_is all answer (IsAnswer.too_deep before after t e f h deep) =
 
 -- ---- of what a function returned
 
-pub right_of : (all : List Token) (r : Answer) → Answers r (parsed all) → IsRight all r
+pub right_of : (all : List Token) (r : Answer) → Answers (parsed all) r → IsRight all r
 right_of all (Ok s) e = subst (IsAnswer all) e (parsed_exact all)
 right_of all (Err (Syntax at)) e = subst (IsAnswer all) e (parsed_exact all)
 right_of all (Err (TooDeep at)) e = subst (IsAnswer all) e (parsed_exact all)
 right_of all (Err Memory) e = tt
 
-pub only_of : (all : List Token) (r : Answer) → Answers r (parsed all) → (answer : Answer) → IsAnswer all answer → Answers r answer
-only_of all r h answer a = subst (Answers r) (answer_is all answer a) h
+pub only_of : (all : List Token) (r : Answer) → Answers (parsed all) r → (answer : Answer) → IsAnswer all answer → Answers answer r
+only_of all r h answer a = subst (λ said. Answers said r) (answer_is all answer a) h
 
 -- ---- for the code
 
@@ -166,7 +166,7 @@ pub read_within : (ts : List Token) (n : ℕ) → read ts ≡ Err n → n ≤ le
 read_within ts n e = let f = err_is_fault ts n e in omega (arith, ap length f.split, length-append f.before f.after, f.count)
 
 -- what was read of the words up to the first deep one, by its fault
-pub answers_fault : (all : List Token) (i : ℕ) (r : Answer) (o p : Result Value ℕ) (fault : ParseFault) → o ≡ p → settled_deep all i p ≡ Err fault → r ≡ Err fault → Answers r (settled_deep all i o)
+pub answers_fault : (all : List Token) (i : ℕ) (r : Answer) (o p : Result Value ℕ) (fault : ParseFault) → o ≡ p → settled_deep all i p ≡ Err fault → r ≡ Err fault → Answers (settled_deep all i o) r
 answers_fault all i r o p fault e f g = rw (g, e, f) (by fault)
   where
     by : (x : ParseFault) → Answers (Err x) (Err x)

@@ -1,14 +1,13 @@
 -- Reading in steps: what is left, and steps that are alike.
-use Rattle.std.proofs.Common.{◌≡◌, Bool, true, false, List, [], ◌∷◌, Option, Some, None, Ok, Err, refl, ap, ◌∙◌, if◌then◌else◌, arith}
+use Rattle.std.proofs.Common.{◌≡◌, Bool, true, false, List, [], ◌∷◌, Option, Some, None, Ok, Err, refl, ap, if◌then◌else◌}
 use denote.Ref.{Bor}
 use Rattle.xp_token.specs.declared.token.Token.{Token}
 use Rattle.xp_grammar.specs.declared.kind.Class.{Class}
-use Rattle.xp_grammar.specs.declared.ast.Ast.{Ast}
 use Rattle.xp_grammar.specs.declared.kind.Kind.{Kind}
 use Rattle.xp_grammar.specs.declared.kind.Kind.TheVariants as k
 use Rattle.xp_grammar.specs.Kinds.{kind, has, same}
-use Rattle.xp_grammar.specs.Table.{Level, Value, Word, Tree}
-use Rattle.xp_grammar.specs.inner.Machine.{Outcome, Parser, and_then, ◌>>=◌, pure, expect, eat, taken, after, parse, more}
+use Rattle.xp_grammar.specs.Table.{Value}
+use Rattle.xp_grammar.specs.inner.Machine.{Outcome, Parser, and_then, ◌>>=◌, pure, expect, eat, taken, after}
 use Rattle.xp_parser.specs.inner.Reading.{Eats}
 
 -- a token that may be there or not, and makes no difference

@@ -1,4 +1,3 @@
-pub mod Depth
 pub mod Parses
 pub mod WellFormed
 pub mod inner

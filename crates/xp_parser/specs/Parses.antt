@@ -1,6 +1,7 @@
 -- What a list of tokens that ends in End is: a statement, or the first fault in it (manual 4.1.6, 4.2; the depth is this project's own).
-use Rattle.std.specs.Prelude.{◌≡◌, ℕ, zero, suc, ◌+◌, ◌-◌, ◌≤◌, ◌<◌, Bool, false, List, [], ◌∷◌, ◌++◌, length, take, slice_get, Option, Some, None, Result, Ok, Err}
+use Rattle.std.specs.Prelude.{◌≡◌, ℕ, zero, suc, ◌+◌, ◌-◌, ◌≤◌, ◌<◌, Bool, true, false, List, [], ◌∷◌, ◌++◌, length, take, slice_get, Option, Some, None, Result, Ok, Err}
 use Rattle.std.specs.Option.{option_map_or}
+use Rattle.xp_base.specs.OrMemory.{OrMemory}
 use Rattle.xp_base.specs.declared.limits.TheConstants.{DEPTH_LIMIT}
 use Rattle.xp_token.specs.declared.token.Token.{Token}
 use Rattle.xp_token.specs.Ended.{is_end}
@@ -10,7 +11,7 @@ use Rattle.xp_grammar.specs.Table.{Value, Stated}
 use Rattle.xp_grammar.specs.Reads.{IsStatement, IsFront, Stuck, read}
 use Rattle.xp_parser.specs.declared.fault.ParseFault.{ParseFault}
 use Rattle.xp_parser.specs.declared.fault.ParseFault.TheVariants.{Syntax, TooDeep, Memory}
-use Rattle.xp_parser.specs.Depth.{depth, first_deep}
+use Rattle.xp_depth.specs.Depth.{depth, first_deep}
 
 abbrev pub ends_in_end : List Token → Bool
 ends_in_end [] = false
@@ -67,9 +68,11 @@ parsed_by all (Some i) = settled_deep all i (read (take (i + 1) (words all)))
 unfoldable pub parsed : List Token → Answer
 parsed all = parsed_by all (first_deep (words all))
 
--- what `parse` returned is this answer, unless memory ran out
+abbrev pub is_memory : ParseFault → Bool
+is_memory (Syntax at) = false
+is_memory (TooDeep at) = false
+is_memory Memory = true
+
+-- this answer, unless memory ran out
 abbrev pub Answers : Answer → Answer → Type 0
-Answers (Ok s) answer = answer ≡ Ok s
-Answers (Err Memory) answer = Unit {0}
-Answers (Err (Syntax at)) answer = answer ≡ Err (Syntax at)
-Answers (Err (TooDeep at)) answer = answer ≡ Err (TooDeep at)
+Answers = OrMemory is_memory

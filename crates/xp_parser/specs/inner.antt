@@ -1,4 +1,3 @@
-pub mod Counted
 pub mod Nests
 pub mod Parts
 pub mod Reading

@@ -1,12 +1,11 @@
 //! The parser of statements (manual 4.1.6 and 4.2): the tree of a list of tokens, or the place of its first fault.
-//! Stands on the grammar's table and trees and on the tokens, and bounds how deeply a statement nests.
+//! Stands on the grammar's table and trees, the tokens and their depth, which bounds how deeply a statement nests.
 //! Never looks at a catalogue: names, types and what an expression means are left as they are written.
 #![tactic(auto)]
 
 mod cases;
 mod chains;
 mod cursor;
-mod depth;
 mod fault;
 mod forms;
 mod grammar;

@@ -6,11 +6,11 @@ ghost use Rattle.xp_token.specs.Lexemes.{all_placed};
 ghost use Rattle.xp_parser.specs.Parses as spec;
 ghost use Rattle.xp_parser.specs.WellFormed.{is_well_formed};
 
-use crate::depth::first_deep;
 use crate::fault::ParseFault;
 use crate::parse_error::ParseError;
 use crate::reading::whole;
 use std::alloc::Global;
+use xp_depth::first_deep;
 use xp_grammar::Statement;
 use xp_token::{Token, Tokens};
 
@@ -27,7 +27,7 @@ fn start_at(tokens: &[Token], place: usize) -> u32
 /// The statement that the words are, which are all tokens but the End.
 fn parse_words(alloc: Global, tokens: &[Token], words: &[Token]) -> Result<Statement, ParseFault>
     requires { words.now ≡ spec.words tokens.now }
-    ensures { spec.Answers result (spec.settled tokens.now (read words.now)) }
+    ensures { spec.Answers (spec.settled tokens.now (read words.now)) result }
 {
     match whole(alloc, words) {
         Ok(statement) => Ok(statement),
@@ -63,7 +63,7 @@ fn parse_deep(
     place: usize,
 ) -> Result<Statement, ParseFault>
     requires { length words.now ≡ place + 1 }
-    ensures { spec.Answers result (spec.settled_deep tokens.now place (read words.now)) }
+    ensures { spec.Answers (spec.settled_deep tokens.now place (read words.now)) result }
 {
     match whole(alloc, words) {
         Ok(statement) => {
@@ -81,7 +81,7 @@ fn parse_deep(
 #[tactic(auto, unfolding(crate::specs::Parses::parsed))]
 fn answer(alloc: Global, tokens: &[Token]) -> Result<Statement, ParseFault>
     requires { spec.ends_in_end tokens.now ≡ true }
-    ensures { spec.Answers result (spec.parsed tokens.now) }
+    ensures { spec.Answers (spec.parsed tokens.now) result }
 {
     let words = &tokens[..tokens.len() - 1];
     match first_deep(alloc, words) {
@@ -97,9 +97,9 @@ pub fn parse(alloc: Global, tokens: &Tokens) -> Result<Statement, ParseFault>
     // What is answered is what the tokens are.
     ensures right { spec.IsRight tokens.now result }
     // They are nothing else, and what they are is answered, unless memory ran out.
-    ensures only { (answer : spec.Answer) → spec.IsAnswer tokens.now answer → spec.Answers result answer }
+    ensures only { (answer : spec.Answer) → spec.IsAnswer tokens.now answer → spec.Answers answer result }
     // The answer is told by a function of the tokens.
-    ensures value { spec.Answers result (spec.parsed tokens.now) }
+    ensures value { spec.Answers (spec.parsed tokens.now) result }
     // Of plain numbers comes a well-formed statement: only arguments of a call and elements of an array may be none.
     ensures formed { IfOk result (λ s. are_plain (all_placed tokens.now) ≡ true → is_well_formed s ≡ true) }
 {

@@ -1,7 +1,7 @@
 //! How deep a list of tokens is, read once from the left.
 ghost use Rattle.std.specs.Prelude.{◌≡◌, ◌+◌, ◌≤◌, ◌<◌, [], length, reverse, IfOk, IfSome, MatchOption};
-ghost use Rattle.xp_parser.specs.Depth as spec;
-ghost use Rattle.xp_parser.specs.inner.Counted as kept;
+ghost use Rattle.xp_depth.specs.Depth as spec;
+ghost use Rattle.xp_depth.specs.inner.Counted as kept;
 ghost use Rattle.xp_base.specs.declared.limits.TheConstants.{DEPTH_LIMIT};
 
 use std::alloc::{AllocError, Global};

@@ -1,6 +1,6 @@
 use Rattle.std.proofs.Common.{arith}
-use Rattle.xp_parser.proofs.Deep.{around_pushed}
-use Rattle.xp_parser.proofs.depth.Groups.entered.Goals as goal
+use Rattle.xp_depth.proofs.Deep.{around_pushed}
+use Rattle.xp_depth.proofs.depth.Groups.entered.Goals as goal
 
 pub within-requires-clause-around : goal.within-requires-clause-around
 within-requires-clause-around c =

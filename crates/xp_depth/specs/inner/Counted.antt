@@ -1,7 +1,7 @@
 -- What the code counts of the groups that are open.
 use Rattle.std.specs.Prelude.{ℕ, ◌+◌, List, [], ◌∷◌, reverse}
-use Rattle.xp_parser.specs.declared.depth.Part.{Part}
-use Rattle.xp_parser.specs.Depth.{Groups, closed}
+use Rattle.xp_depth.specs.declared.depth.Part.{Part}
+use Rattle.xp_depth.specs.Depth.{Groups, closed}
 
 -- how much the groups around the innermost add to what is in it
 abbrev pub added : List Part → ℕ

@@ -14,9 +14,9 @@ use Rattle.xp_token.specs.declared.token.Mark.TheVariants as mark
 use Rattle.xp_grammar.specs.declared.kind.Kind.{Kind}
 use Rattle.xp_grammar.specs.declared.kind.Kind.TheVariants as k
 use Rattle.xp_grammar.specs.Kinds.{kind, same}
-use Rattle.xp_parser.specs.declared.depth.Part.{Part}
-use Rattle.xp_parser.specs.declared.depth.Role.{Role}
-use Rattle.xp_parser.specs.declared.depth.Role.TheVariants.{Plain, Joint, Bracket, Opening, Closing, Divider}
+use Rattle.xp_depth.specs.declared.depth.Part.{Part}
+use Rattle.xp_depth.specs.declared.depth.Role.{Role}
+use Rattle.xp_depth.specs.declared.depth.Role.TheVariants.{Plain, Joint, Bracket, Opening, Closing, Divider}
 
 -- what a reserved word does
 abbrev pub word_role : Word → Role

@@ -1,11 +1,11 @@
 use Rattle.std.proofs.Common.{◌∙◌, ap, ◌≤◌, arith, reverse}
 use Rattle.xp_base.proofs.Lists.{drop_one}
 use Rattle.xp_base.specs.declared.limits.TheConstants.{DEPTH_LIMIT}
-use Rattle.xp_parser.specs.Depth.{deep_from, first_deep, depth_of}
-use Rattle.xp_parser.specs.inner.Counted.{seen}
+use Rattle.xp_depth.specs.Depth.{deep_from, first_deep, depth_of}
+use Rattle.xp_depth.specs.inner.Counted.{seen}
 use Rattle.xp_grammar.specs.declared.kind.Kind.TheVariants as k
-use Rattle.xp_parser.proofs.Deep.{closed_is, turn_goes, turn_stops}
-use Rattle.xp_parser.proofs.depth.first_deep.Goals as goal
+use Rattle.xp_depth.proofs.Deep.{closed_is, turn_goes, turn_stops}
+use Rattle.xp_depth.proofs.depth.first_deep.Goals as goal
 
 pub loop-at-init : goal.loop-at-init
 unfolding first_deep

@@ -1,7 +1,7 @@
 use Rattle.std.proofs.Common.{◌≡◌, drop}
-use Rattle.xp_parser.specs.Depth.{deep_from, first_deep}
-use Rattle.xp_parser.specs.inner.Counted.{seen}
-use Rattle.xp_parser.proofs.depth.first_deep.Given as goal
+use Rattle.xp_depth.specs.Depth.{deep_from, first_deep}
+use Rattle.xp_depth.specs.inner.Counted.{seen}
+use Rattle.xp_depth.proofs.depth.first_deep.Given as goal
 
 -- the first deep token of the rest is that of all
 abbrev pub invariant-loop-at : goal.invariant-loop-at

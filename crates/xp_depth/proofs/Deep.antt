@@ -7,12 +7,12 @@ use Rattle.xp_token.specs.declared.token.Token.{Token}
 use Rattle.xp_grammar.specs.declared.kind.Kind.{Kind}
 use Rattle.xp_grammar.specs.declared.kind.Kind.TheVariants as k
 use Rattle.xp_grammar.specs.Kinds.{kind}
-use Rattle.xp_parser.specs.declared.depth.Role.{Role}
-use Rattle.xp_parser.specs.declared.depth.Role.TheVariants.{Plain, Joint, Bracket, Opening, Closing, Divider}
+use Rattle.xp_depth.specs.declared.depth.Role.{Role}
+use Rattle.xp_depth.specs.declared.depth.Role.TheVariants.{Plain, Joint, Bracket, Opening, Closing, Divider}
 use Rattle.std.proofs.lemmas.List.{reverse-append}
-use Rattle.xp_parser.specs.declared.depth.Part.{Part}
-use Rattle.xp_parser.specs.Depth.{deepest, divided, with_group, with_joint, nothing, closed, depth_of, left, Groups, step, role_of, groups, start, depth, deep_from, first_deep}
-use Rattle.xp_parser.specs.inner.Counted.{added, around}
+use Rattle.xp_depth.specs.declared.depth.Part.{Part}
+use Rattle.xp_depth.specs.Depth.{deepest, divided, with_group, with_joint, nothing, closed, depth_of, left, Groups, step, role_of, groups, start, depth, deep_from, first_deep}
+use Rattle.xp_depth.specs.inner.Counted.{added, around}
 
 -- what is in the innermost group counts with what the groups around it add
 pub closed_is : (p : Part) (ps : List Part) → closed p ps ≡ max (added ps + deepest p) (around ps)

@@ -1,6 +1,6 @@
 use Rattle.std.proofs.Common.{arith}
-use Rattle.xp_parser.proofs.Deep.{around_pushed, added_pushed}
-use Rattle.xp_parser.proofs.depth.Groups.left.Goals as goal
+use Rattle.xp_depth.proofs.Deep.{around_pushed, added_pushed}
+use Rattle.xp_depth.proofs.depth.Groups.left.Goals as goal
 
 pub invariant_of-result-2 : goal.invariant_of-result-2
 invariant_of-result-2 c =

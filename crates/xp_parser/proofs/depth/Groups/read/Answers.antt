@@ -1,6 +1,0 @@
-use Rattle.std.proofs.Common.{reverse}
-use Rattle.xp_parser.proofs.Deep.{bracket_deepens}
-use Rattle.xp_parser.proofs.depth.Groups.read.Goals as goal
-
-pub returns-in-None : goal.returns-in-None
-returns-in-None c = rw c.in-Bracket.is (bracket_deepens c.args.self.part (reverse c.args.self.outer.items) 200 c.in-None.ensures)
