@@ -1,5 +1,5 @@
 -- What a loop over trees has left: the next one, and what is behind it.
-use Rattle.std.proofs.Common.{◌≡◌, ℕ, ◌+◌, ◌<◌, ◌≤◌, List, [], ◌∷◌, Bool, true, false, ◌&&◌, ◌||◌, length, get_or, drop, ap, zero, suc, max, arith}
+use Rattle.std.proofs.Common.{◌≡◌, ℕ, ◌+◌, ◌<◌, ◌≤◌, List, [], ◌∷◌, ◌++◌, Bool, true, false, ◌&&◌, ◌||◌, length, get_or, drop, ap, zero, suc, max, arith}
 use Rattle.xp_base.proofs.Lists.{drop_one, drop_none}
 use Rattle.xp_tree.specs.declared.node.CaseArm.{CaseArm}
 use Rattle.xp_tree.specs.Term.{Term, size, size_all, size_arms, is_fixed, all_fixed, arms_fixed, is_open, some_open, arms_open, terms}
@@ -57,3 +57,11 @@ condition_at arms i d h = omega (arith, arm_at arms i d h)
 
 pub result_at : (arms : List CaseArm) (i : ℕ) (d : CaseArm) → i < length arms → height (get_or arms i d).result ≤ height_arms (arms_of arms)
 result_at arms i d h = omega (arith, arm_at arms i d h)
+
+pub height_pushed : (ts : List Term) (t : Term) → height_all (terms (ts ++ t ∷ [])) ≡ max (height_all (terms ts)) (height t)
+height_pushed [] t = omega arith
+height_pushed (a ∷ ts) t = omega (arith, height_pushed ts t)
+
+pub arms_height_pushed : (arms : List CaseArm) (a : CaseArm) → height_arms (arms_of (arms ++ a ∷ [])) ≡ max (height_arms (arms_of arms)) (max (height a.condition) (height a.result))
+arms_height_pushed [] a = omega arith
+arms_height_pushed (b ∷ arms) a = omega (arith, arms_height_pushed arms a)

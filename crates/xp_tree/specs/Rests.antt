@@ -3,6 +3,7 @@ use Rattle.std.specs.Prelude.{◌≡◌, ℕ, List, [], ◌∷◌, Bool, true, f
 use Rattle.std.specs.List.{list_all, list_any}
 use Rattle.std.specs.Str.{bytes_eq}
 use Rattle.xp_base.specs.declared.numbers.BodyNo.{BodyNo}
+use Rattle.xp_value.specs.Names.{rep_named}
 use Rattle.xp_value.specs.declared.value.Rep.{Rep}
 use Rattle.xp_value.specs.declared.value.Rep.TheVariants as rep
 use Rattle.xp_bodies.specs.Row.{Row}
@@ -43,21 +44,12 @@ range_over rep.Int8 = rep.Int8Range
 range_over rep.Day = rep.DateRange
 range_over _ = rep.Opaque
 
--- the representation of the type of that name
-abbrev pub rep_named : List ℕ → Rep
-rep_named name =
-    cond (bytes_eq name (codes "bool")) rep.Bool (
-    cond (bytes_eq name (codes "int2")) rep.Int2 (
-    cond (bytes_eq name (codes "int4")) rep.Int4 (
-    cond (bytes_eq name (codes "int8")) rep.Int8 (
-    cond (bytes_eq name (codes "numeric")) rep.Num (
-    cond (bytes_eq name (codes "text") || bytes_eq name (codes "varchar")) rep.Text (
-    cond (bytes_eq name (codes "bpchar")) rep.Pad (
-    cond (bytes_eq name (codes "bytea")) rep.Bytes (
-    cond (bytes_eq name (codes "date")) rep.Day (
+-- the representation of the type of that name, a range type among them
+abbrev pub rep_called : List ℕ → Rep
+rep_called name =
     cond (bytes_eq name (codes "int4range")) rep.Int4Range (
     cond (bytes_eq name (codes "int8range")) rep.Int8Range (
-    cond (bytes_eq name (codes "daterange")) rep.DateRange rep.Opaque)))))))))))
+    cond (bytes_eq name (codes "daterange")) rep.DateRange (rep_named name)))
 
 abbrev pub is_array_over : Rep → NodeType → Bool
 is_array_over element ty = is_same_rep ty.rep rep.Arr && is_same_rep ty.element element
@@ -68,7 +60,7 @@ fits_at element name ty =
     cond (bytes_eq name (codes "any")) (is_array_over rep.Text ty) (
     cond (bytes_eq name (codes "anyelement") || bytes_eq name (codes "anynonarray") || bytes_eq name (codes "anycompatible")) (is_same_rep ty.rep element) (
     cond (bytes_eq name (codes "anyarray") || bytes_eq name (codes "anycompatiblearray")) (is_array_over element ty) (
-    cond (bytes_eq name (codes "anyrange")) (is_same_rep ty.rep (range_over element)) (is_same_rep ty.rep (rep_named name)))))
+    cond (bytes_eq name (codes "anyrange")) (is_same_rep ty.rep (range_over element)) (is_same_rep ty.rep (rep_called name)))))
 
 abbrev pub fit_each : Rep → List (List ℕ) → List NodeType → Bool
 fit_each element [] [] = true

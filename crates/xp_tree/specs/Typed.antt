@@ -22,6 +22,10 @@ is_text rep.Text = true
 is_text rep.Pad = true
 is_text _ = false
 
+-- a text, or a value whose type isn't represented, which is kept as its text
+abbrev pub may_be_text : Rep → Bool
+may_be_text r = is_text r || is_same_rep r rep.Opaque
+
 -- the values of both are kept alike
 abbrev pub SameRep : NodeType → NodeType → Type 0
 SameRep a b = (a.rep ≡ b.rep) × (a.element ≡ b.element)
@@ -42,20 +46,25 @@ shape_of ty = shape_with ty.element ty.rep
 abbrev pub element_of : NodeType → NodeType
 element_of ty = record { no = ty.no; rep = ty.element; element = rep.Opaque }
 
+-- a type that isn't represented takes every modifier
 abbrev pub is_sized : Rep → Modifier → Bool
 is_sized r modifier.None = true
-is_sized r (modifier.Length n) = is_text r
-is_sized r (modifier.Digits p s) = is_same_rep r rep.Num
+is_sized r (modifier.Length n) = may_be_text r
+is_sized r (modifier.Digits p s) = is_same_rep r rep.Num || is_same_rep r rep.Opaque
 
 -- the modifier is one of the type, or of an array type's elements
 abbrev pub takes_modifier : NodeType → Modifier → Bool
 takes_modifier ty m = is_sized ty.rep m || (is_same_rep ty.rep rep.Arr && is_sized ty.element m)
 
+-- an array type, where its values are represented
+abbrev pub IsArray : NodeType → Type 0
+IsArray ty = is_represented ty ≡ true → ty.rep ≡ rep.Arr
+
 -- each element of the one becomes an element of the other in this way
 abbrev pub Converts : Way → NodeType → NodeType → Type 0
 Converts (ByBody callee) a ty = Rests callee (element_of a ∷ [])
-Converts ByOutput a ty = is_text ty.element ≡ true
-Converts ByInput a ty = is_text a.element ≡ true
+Converts ByOutput a ty = may_be_text ty.element ≡ true
+Converts ByInput a ty = may_be_text a.element ≡ true
 Converts ByRelabel a ty = is_relabelled a.element ty.element ≡ true
 
 abbrev pub FitsLeaf : Leaf → NodeType → Type 0
@@ -65,10 +74,10 @@ FitsLeaf given ty = Unit {0}
 
 -- a node of type `ty` over a tree of type `a`
 abbrev pub FitsOne : One → NodeType → NodeType → Type 0
-FitsOne output a ty = is_text ty.rep ≡ true
-FitsOne input a ty = is_text a.rep ≡ true
+FitsOne output a ty = may_be_text ty.rep ≡ true
+FitsOne input a ty = may_be_text a.rep ≡ true
 FitsOne relabel a ty = is_relabelled a.rep ty.rep ≡ true
-FitsOne (elements way) a ty = (a.rep ≡ rep.Arr) × (ty.rep ≡ rep.Arr) × Converts way a ty
+FitsOne (elements way) a ty = IsArray a × IsArray ty × Converts way a ty
 FitsOne (sizing m cut) a ty = (a ≡ ty) × (takes_modifier ty m ≡ true)
 FitsOne negation a ty = IsBool a × IsBool ty
 FitsOne is_null a ty = IsBool ty

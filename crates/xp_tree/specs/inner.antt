@@ -1,3 +1,4 @@
 pub mod Coding
 pub mod Falls
 pub mod Heights
+pub mod Order

@@ -1,16 +1,117 @@
-//! Copies of nodes.
-ghost use Rattle.std.specs.Prelude.{◌≡◌, IfOk};
+//! Copies of trees, which take no deep stack: first the trees in an order where each stands in
+//! front of its parts, and then, from the last to the first, a copy of each over those of its parts.
+ghost use Rattle.std.specs.Prelude.{◌≡◌, [], ◌∷◌, ◌++◌, IfOk, OnOk};
+ghost use Rattle.xp_tree.specs.Term.{terms};
+ghost use Rattle.xp_tree.specs.View.{arms_of, term_of};
+ghost use Rattle.xp_tree.specs.inner.Order.{Leads, StartsWith, list_of, list_of_arms, parts};
 
-use crate::lists::{copy_all, copy_arms};
-use crate::node::Node;
+use crate::node::{CaseArm, CaseArms, Node, Trees};
+use crate::stacks::{Made, Waiting};
 use crate::tree::Tree;
+use sqlite_items::Items;
 use std::alloc::Global;
 use xp_base::{Memory, Name};
 
-/// A node over copies of the trees below.
-#[cycle(copy)]
-pub fn copy_node(alloc: Global, node: &Node) -> Result<Node, Memory>
-    ensures { IfOk result (λ copied. copied ≡ node.now) }
+/// The tree and all that lie below, each in front of its parts.
+#[tactic(auto, using(crate::proofs::Orders::parts_smaller))]
+pub fn parents_first<'a>(alloc: Global, tree: &'a Tree) -> Result<Waiting<'a>, Memory>
+    ensures { IfOk result (λ listed. Leads listed (tree.now ∷ []) []) }
+{
+    let mut listed = Waiting::new(alloc);
+    let mut waiting = Waiting::new(alloc);
+    waiting.push(tree)?;
+    'waiting: while let Some(next) = waiting.pop() {
+        listed.push(next)?;
+        push_parts(&mut waiting, next.top())?;
+    }
+    Ok(listed)
+}
+
+/// Puts the trees just below onto the stack, the first one last.
+fn push_parts<'a>(waiting: &mut Waiting<'a>, node: &'a Node) -> Result<(), Memory>
+    ensures { OnOk result (waiting.new ≡ parts (term_of node.now) ++ waiting.old) }
+{
+    match node {
+        Node::Constant { .. } | Node::Column { .. } | Node::Given { .. } => Ok(()),
+        Node::Output { arg, .. }
+        | Node::Input { arg, .. }
+        | Node::Relabel { arg, .. }
+        | Node::Sizing { arg, .. }
+        | Node::Not { arg, .. }
+        | Node::IsNull { arg, .. }
+        | Node::IsTrue { arg, .. }
+        | Node::IsFalse { arg, .. }
+        | Node::IsUnknown { arg, .. }
+        | Node::Elements { arg, .. }
+        | Node::Domain {
+            arg,
+            check: None,
+            ..
+        } => waiting.push(arg),
+        Node::Domain {
+            arg,
+            check: Some(check),
+            ..
+        } => push_both(waiting, arg, check),
+        Node::And { left, right, .. }
+        | Node::Or { left, right, .. }
+        | Node::NullIf { left, right, .. }
+        | Node::Distinct { left, right, .. } => push_both(waiting, left, right),
+        Node::Subscript { array, index, .. } => push_both(waiting, array, index),
+        Node::Call { args, .. }
+        | Node::Coalesce { args, .. }
+        | Node::Greatest { args, .. }
+        | Node::Least { args, .. }
+        | Node::Array { args, .. } => push_all(waiting, args.as_slice()),
+        Node::Case {
+            arms,
+            otherwise,
+            ..
+        } => {
+            push_arms(waiting, arms.as_slice())?;
+            waiting.push(otherwise)
+        }
+    }
+}
+
+fn push_both<'a>(waiting: &mut Waiting<'a>, a: &'a Tree, b: &'a Tree) -> Result<(), Memory>
+    ensures { OnOk result (waiting.new ≡ a.now ∷ b.now ∷ waiting.old) }
+{
+    waiting.push(b)?;
+    waiting.push(a)
+}
+
+#[tactic(auto, using(xp_base::proofs::Lists::drop_one, xp_base::proofs::Lists::drop_none, crate::proofs::Orders::listed))]
+fn push_all<'a>(waiting: &mut Waiting<'a>, trees: &'a [Tree]) -> Result<(), Memory>
+    ensures { OnOk result (waiting.new ≡ list_of (terms trees.now) ++ waiting.old) }
+{
+    let mut left = trees.len();
+    'trees: while left > 0 {
+        left -= 1;
+        waiting.push(&trees[left])?;
+    }
+    Ok(())
+}
+
+#[tactic(auto, using(xp_base::proofs::Lists::drop_one, xp_base::proofs::Lists::drop_none))]
+fn push_arms<'a>(waiting: &mut Waiting<'a>, arms: &'a [CaseArm]) -> Result<(), Memory>
+    ensures { OnOk result (waiting.new ≡ list_of_arms (arms_of arms.now) ++ waiting.old) }
+{
+    let mut left = arms.len();
+    'arms: while left > 0 {
+        left -= 1;
+        let arm = &arms[left];
+        push_both(waiting, &arm.condition, &arm.result)?;
+    }
+    Ok(())
+}
+
+/// The node over the copies of its parts, which lie at the top of the stack and are taken from it.
+#[tactic(auto, using(crate::proofs::Orders::listed))]
+pub fn copy_node(alloc: Global, node: &Node, made: &mut Made) -> Result<Node, Memory>
+    requires { StartsWith (parts (term_of node.now)) made.old }
+    ensures value { IfOk result (λ copied. copied ≡ node.now) }
+    ensures rest { OnOk result (made.old ≡ parts (term_of node.now) ++ made.new) }
 {
     match node {
         Node::Constant { value, ty } => Ok(Node::Constant {
@@ -25,142 +126,164 @@ pub fn copy_node(alloc: Global, node: &Node) -> Result<Node, Memory>
         Node::Given { ty } => Ok(Node::Given { ty: *ty }),
         Node::Call { callee, args, ty } => Ok(Node::Call {
             callee: *callee,
-            args: copy_all(alloc, args.as_slice())?,
+            args: take_all(alloc, args.as_slice(), made)?,
             ty: *ty,
         }),
-        Node::Output { arg, ty } => Ok(Node::Output {
-            arg: arg.copy(alloc)?,
+        Node::Output { ty, .. } => Ok(Node::Output {
+            arg: made.take(),
             ty: *ty,
         }),
-        Node::Input { arg, ty } => Ok(Node::Input {
-            arg: arg.copy(alloc)?,
+        Node::Input { ty, .. } => Ok(Node::Input {
+            arg: made.take(),
             ty: *ty,
         }),
-        Node::Relabel { arg, ty } => Ok(Node::Relabel {
-            arg: arg.copy(alloc)?,
+        Node::Relabel { ty, .. } => Ok(Node::Relabel {
+            arg: made.take(),
             ty: *ty,
         }),
-        Node::Not { arg, ty } => Ok(Node::Not {
-            arg: arg.copy(alloc)?,
+        Node::Not { ty, .. } => Ok(Node::Not {
+            arg: made.take(),
             ty: *ty,
         }),
-        Node::IsNull { arg, ty } => Ok(Node::IsNull {
-            arg: arg.copy(alloc)?,
+        Node::IsNull { ty, .. } => Ok(Node::IsNull {
+            arg: made.take(),
             ty: *ty,
         }),
-        Node::IsTrue { arg, ty } => Ok(Node::IsTrue {
-            arg: arg.copy(alloc)?,
+        Node::IsTrue { ty, .. } => Ok(Node::IsTrue {
+            arg: made.take(),
             ty: *ty,
         }),
-        Node::IsFalse { arg, ty } => Ok(Node::IsFalse {
-            arg: arg.copy(alloc)?,
+        Node::IsFalse { ty, .. } => Ok(Node::IsFalse {
+            arg: made.take(),
             ty: *ty,
         }),
-        Node::IsUnknown { arg, ty } => Ok(Node::IsUnknown {
-            arg: arg.copy(alloc)?,
+        Node::IsUnknown { ty, .. } => Ok(Node::IsUnknown {
+            arg: made.take(),
             ty: *ty,
         }),
-        Node::Elements { arg, way, ty } => Ok(Node::Elements {
-            arg: arg.copy(alloc)?,
+        Node::Elements { way, ty, .. } => Ok(Node::Elements {
+            arg: made.take(),
             way: *way,
             ty: *ty,
         }),
         Node::Sizing {
-            arg,
             modifier,
             cut,
             ty,
+            ..
         } => Ok(Node::Sizing {
-            arg: arg.copy(alloc)?,
+            arg: made.take(),
             modifier: *modifier,
             cut: *cut,
             ty: *ty,
         }),
         Node::Domain {
-            arg,
             domain,
             not_null,
-            check,
+            check: None,
             ty,
+            ..
         } => Ok(Node::Domain {
-            arg: arg.copy(alloc)?,
+            arg: made.take(),
             domain: *domain,
             not_null: *not_null,
-            check: copy_check(alloc, check)?,
+            check: None,
             ty: *ty,
         }),
-        Node::And { left, right, ty } => Ok(Node::And {
-            left: left.copy(alloc)?,
-            right: right.copy(alloc)?,
-            ty: *ty,
-        }),
-        Node::Or { left, right, ty } => Ok(Node::Or {
-            left: left.copy(alloc)?,
-            right: right.copy(alloc)?,
-            ty: *ty,
-        }),
-        Node::Case {
-            arms,
-            otherwise,
+        Node::Domain {
+            domain,
+            not_null,
+            check: Some(_),
             ty,
-        } => Ok(Node::Case {
-            arms: copy_arms(alloc, arms.as_slice())?,
-            otherwise: otherwise.copy(alloc)?,
+            ..
+        } => Ok(Node::Domain {
+            arg: made.take(),
+            domain: *domain,
+            not_null: *not_null,
+            check: Some(made.take()),
             ty: *ty,
         }),
+        Node::And { ty, .. } => Ok(Node::And {
+            left: made.take(),
+            right: made.take(),
+            ty: *ty,
+        }),
+        Node::Or { ty, .. } => Ok(Node::Or {
+            left: made.take(),
+            right: made.take(),
+            ty: *ty,
+        }),
+        Node::Case { arms, ty, .. } => {
+            let otherwise = made.take();
+            Ok(Node::Case {
+                arms: take_arms(alloc, arms.as_slice(), made)?,
+                otherwise,
+                ty: *ty,
+            })
+        }
         Node::Coalesce { args, ty } => Ok(Node::Coalesce {
-            args: copy_all(alloc, args.as_slice())?,
+            args: take_all(alloc, args.as_slice(), made)?,
             ty: *ty,
         }),
         Node::Greatest { args, ty } => Ok(Node::Greatest {
-            args: copy_all(alloc, args.as_slice())?,
+            args: take_all(alloc, args.as_slice(), made)?,
             ty: *ty,
         }),
         Node::Least { args, ty } => Ok(Node::Least {
-            args: copy_all(alloc, args.as_slice())?,
+            args: take_all(alloc, args.as_slice(), made)?,
             ty: *ty,
         }),
         Node::Array { args, ty } => Ok(Node::Array {
-            args: copy_all(alloc, args.as_slice())?,
+            args: take_all(alloc, args.as_slice(), made)?,
             ty: *ty,
         }),
-        Node::NullIf {
-            callee,
-            left,
-            right,
-            ty,
-        } => Ok(Node::NullIf {
+        Node::NullIf { callee, ty, .. } => Ok(Node::NullIf {
             callee: *callee,
-            left: left.copy(alloc)?,
-            right: right.copy(alloc)?,
+            left: made.take(),
+            right: made.take(),
             ty: *ty,
         }),
-        Node::Distinct {
-            callee,
-            left,
-            right,
-            ty,
-        } => Ok(Node::Distinct {
+        Node::Distinct { callee, ty, .. } => Ok(Node::Distinct {
             callee: *callee,
-            left: left.copy(alloc)?,
-            right: right.copy(alloc)?,
+            left: made.take(),
+            right: made.take(),
             ty: *ty,
         }),
-        Node::Subscript { array, index, ty } => Ok(Node::Subscript {
-            array: array.copy(alloc)?,
-            index: index.copy(alloc)?,
+        Node::Subscript { ty, .. } => Ok(Node::Subscript {
+            array: made.take(),
+            index: made.take(),
             ty: *ty,
         }),
     }
 }
 
-/// A copy of a domain's check, where it has one.
-#[cycle(copy)]
-fn copy_check(alloc: Global, check: &Option<Tree>) -> Result<Option<Tree>, Memory>
-    ensures { IfOk result (λ copied. copied ≡ check.now) }
+/// The copies of the trees, in their order, taken from the top of the stack.
+#[tactic(auto, using(xp_base::proofs::Lists::drop_one, xp_base::proofs::Lists::drop_none, crate::proofs::Orders::listed))]
+fn take_all(alloc: Global, trees: &[Tree], made: &mut Made) -> Result<Trees, Memory>
+    requires { StartsWith (list_of (terms trees.now)) made.old }
+    ensures value { IfOk result (λ copies. copies ≡ trees.now) }
+    ensures rest { OnOk result (made.old ≡ list_of (terms trees.now) ++ made.new) }
 {
-    match check {
-        Some(check) => Ok(Some(check.copy(alloc)?)),
-        None => Ok(None),
+    let mut copies = Items::new(alloc);
+    'trees: for _tree in trees {
+        copies.push(made.take())?;
     }
+    Ok(copies)
+}
+
+/// The copies of the arms, in their order, taken from the top of the stack.
+#[tactic(auto, using(xp_base::proofs::Lists::drop_one, xp_base::proofs::Lists::drop_none))]
+fn take_arms(alloc: Global, arms: &[CaseArm], made: &mut Made) -> Result<CaseArms, Memory>
+    requires { StartsWith (list_of_arms (arms_of arms.now)) made.old }
+    ensures value { IfOk result (λ copies. copies ≡ arms.now) }
+    ensures rest { OnOk result (made.old ≡ list_of_arms (arms_of arms.now) ++ made.new) }
+{
+    let mut copies = Items::new(alloc);
+    'arms: for _arm in arms {
+        copies.push(CaseArm {
+            condition: made.take(),
+            result: made.take(),
+        })?;
+    }
+    Ok(copies)
 }

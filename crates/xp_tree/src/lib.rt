@@ -5,11 +5,13 @@
 
 mod checks;
 mod copies;
+mod drops;
 mod kept;
 mod lists;
 mod make;
 mod node;
 mod parts;
+mod stacks;
 mod tree;
 
 pub use checks::{Checks, DomainCheck};

@@ -1,13 +1,10 @@
 //! Lists of trees.
-ghost use Rattle.std.specs.Prelude.{◌≡◌, min, ◌^◌, ◌-◌, ◌&&◌, ◌||◌, IfOk};
+ghost use Rattle.std.specs.Prelude.{◌≡◌, min, ◌^◌, ◌-◌, ◌&&◌, ◌||◌};
 ghost use Rattle.xp_tree.specs.Term.{all_fixed as each_fixed, arms_fixed as fixed_arms, arms_open as open_arms, is_fixed, is_open, size_all as sizes, size_arms as arms_size, some_open, terms};
 ghost use Rattle.xp_tree.specs.View.{arms_of};
 
-use crate::node::{CaseArm, CaseArms, Trees};
+use crate::node::CaseArm;
 use crate::tree::Tree;
-use sqlite_items::Items;
-use std::alloc::Global;
-use xp_base::Memory;
 
 /// The sizes together.
 #[tactic(auto, using(crate::proofs::Rest::sizes_step, crate::proofs::Rest::sizes_end))]
@@ -97,33 +94,4 @@ pub fn arms_open(arms: &[CaseArm]) -> bool
         }
     }
     false
-}
-
-/// Copies of the trees, in their order.
-#[cycle(copy)]
-#[tactic(auto, using(crate::proofs::Rest::height_at))]
-pub fn copy_all(alloc: Global, trees: &[Tree]) -> Result<Trees, Memory>
-    ensures { IfOk result (λ copies. copies ≡ trees.now) }
-{
-    let mut copies = Items::new(alloc);
-    'trees: for tree in trees {
-        copies.push(tree.copy(alloc)?)?;
-    }
-    Ok(copies)
-}
-
-/// Copies of the arms, in their order.
-#[cycle(copy)]
-#[tactic(auto, using(crate::proofs::Rest::condition_at, crate::proofs::Rest::result_at))]
-pub fn copy_arms(alloc: Global, arms: &[CaseArm]) -> Result<CaseArms, Memory>
-    ensures { IfOk result (λ copies. copies ≡ arms.now) }
-{
-    let mut copies = Items::new(alloc);
-    'arms: for arm in arms {
-        copies.push(CaseArm {
-            condition: arm.condition.copy(alloc)?,
-            result: arm.result.copy(alloc)?,
-        })?;
-    }
-    Ok(copies)
 }

@@ -1,8 +1,10 @@
 //! Trees, each a node over trees.
-use crate::copies::copy_node;
+use crate::copies::{copy_node, parents_first};
+use crate::drops::largest_part;
 use crate::kept::{is_fixed_over, is_open_over, size_over};
 use crate::node::Node;
 use crate::parts::NodeType;
+use crate::stacks::Made;
 use sqlite_items::Boxed;
 use std::alloc::Global;
 use std::marker::Model;
@@ -11,7 +13,6 @@ use xp_base::{Memory, TypeNo};
 /// A typed tree. What is asked of it again and again, its size and whether it is constant, is kept
 /// beside its node.
 #[cycle(tree)]
-#[derive(Drop)]
 pub struct Tree {
     top: Boxed<Node>,
     size: u64,
@@ -21,7 +22,7 @@ pub struct Tree {
 
 impl Model for Tree {
     ghost use Rattle.xp_tree.specs.Term.{Term};
-    ghost use Rattle.xp_tree.specs.inner.Heights.{height};
+    ghost use Rattle.xp_tree.specs.inner.Heights.{spaced};
     ghost use Rattle.xp_tree.specs.inner.Coding.{term_code};
     ghost use Rattle.std.specs.Coded.{codes};
     ghost use Rattle.xp_value.specs.contracts.value.Value as value;
@@ -38,11 +39,29 @@ impl Model for Tree {
 
     ghost invariant = { λ t. IsKept (term_of t.top) t.size t.fixed t.given };
 
-    ghost size = { height };
+    ghost size = { spaced };
 
     ghost use Rattle.xp_tree.specs.inner.Falls.{depth_le_height};
 
     ghost size_decreases = { λ a h. depth_le_height a.top };
+}
+
+impl Drop for Tree {
+    #[cycle(drop)]
+    fn drop(mut self) {
+        'down: loop {
+            let Tree {
+                top,
+                size: _,
+                fixed: _,
+                given: _,
+            } = self;
+            match largest_part(top.into_inner()) {
+                Some(tree) => self = tree,
+                None => return,
+            }
+        }
+    }
 }
 
 impl Tree {
@@ -76,7 +95,12 @@ impl Tree {
         ensures value { self ≡ term_of result }
         ensures typed { IsTyped (term_of result) }
     {
-        let Tree { top, .. } = self;
+        let Tree {
+            top,
+            size: _,
+            fixed: _,
+            given: _,
+        } = self;
         top.into_inner()
     }
 
@@ -109,12 +133,17 @@ impl Tree {
     }
 
     /// An equal tree.
-    #[cycle(copy)]
+    #[tactic(auto, using(crate::proofs::Orders::made_next))]
     pub fn copy(&self, alloc: Global) -> Result<Tree, Memory>
         ensures { IfOk result (λ t. t ≡ self.now) }
     {
-        let node = copy_node(alloc, self.top())?;
-        Tree::over(alloc, node)
+        let mut listed = parents_first(alloc, self)?;
+        let mut made = Made::new(alloc);
+        'listed: while let Some(tree) = listed.pop() {
+            let node = copy_node(alloc, tree.top(), &mut made)?;
+            made.push(Tree::over(alloc, node)?)?;
+        }
+        Ok(made.take())
     }
 
     /// A law: every node has what it asks for. It does nothing: a proof is told so where it is called.

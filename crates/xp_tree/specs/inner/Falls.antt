@@ -1,5 +1,5 @@
 -- Each child is lower than its parent.
-use Rattle.std.specs.Prelude.{ℕ, ◌+◌, max, List, [], ◌∷◌, ◌≤◌, Some, None}
+use Rattle.std.specs.Prelude.{◌+◌, ◌*◌, max, List, [], ◌∷◌, ◌≤◌, Some, None}
 use Rattle.std.proofs.Common.{arith}
 use Rattle.xp_tree.specs.declared.node.Node.{Node}
 use Rattle.xp_tree.specs.declared.node.Node.TheVariants as node
@@ -10,15 +10,15 @@ use Rattle.xp_tree.specs.View.{term_of, arms_of}
 use Rattle.xp_tree.specs.declared.tree.Tree.TheDeep.{deep-Node, deep-CaseArm}
 use denote.Param.Weighed.{most}
 
-most_trees : (args : List Term) → most (λ y. height y + 1) args ≤ height_all (terms args) + 1
+most_trees : (args : List Term) → most (λ y. 5 * height y + 1) args ≤ 5 * height_all (terms args) + 1
 most_trees [] = omega arith
 most_trees (a ∷ args) = omega (arith, most_trees args)
 
-most_arms : (arms : List CaseArm) → most deep-CaseArm arms ≤ height_arms (arms_of arms) + 1
+most_arms : (arms : List CaseArm) → most deep-CaseArm arms ≤ 5 * height_arms (arms_of arms) + 1
 most_arms [] = omega arith
 most_arms (a ∷ arms) = omega (arith, most_arms arms)
 
-pub depth_le_height : (n : Node) → max (deep-Node n) 0 ≤ height (term_of n)
+pub depth_le_height : (n : Node) → max (deep-Node n) 0 ≤ 5 * height (term_of n)
 depth_le_height (node.Constant value ty) = omega arith
 depth_le_height (node.Column number name ty) = omega arith
 depth_le_height (node.Given ty) = omega arith

@@ -1,5 +1,5 @@
 -- How high trees are, by which recursions over them end.
-use Rattle.std.specs.Prelude.{ℕ, ◌+◌, max, Option, Some, None}
+use Rattle.std.specs.Prelude.{ℕ, ◌+◌, ◌*◌, max, Option, Some, None}
 use Rattle.xp_tree.specs.Term.{Term, Terms, Arms, leaf, one, two, many, case, domain, checked, none, more, no_arm, arm}
 
 abbrev mutual
@@ -20,6 +20,10 @@ abbrev mutual
   height_arms no_arm = 0
   height_arms (arm c r rest) = max (max (height c) (height r)) (height_arms rest)
 
-abbrev pub check_height : Option Term → ℕ
-check_height None = 0
-check_height (Some check) = height check
+abbrev pub height_within : Option Term → ℕ
+height_within None = 0
+height_within (Some t) = height t
+
+-- heights with room between them for the helpers of a recursion
+abbrev pub spaced : Term → ℕ
+spaced t = 5 * height t
