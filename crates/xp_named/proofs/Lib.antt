@@ -1,0 +1,3 @@
+pub mod ArrayTypes
+pub mod Stripped
+pub mod Taken
