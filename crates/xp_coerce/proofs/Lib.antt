@@ -1,0 +1,10 @@
+pub mod Growing
+pub mod Guards
+pub mod Names
+pub mod Strings
+pub mod Tests
+pub mod Casts
+pub mod Rests
+pub mod Paths
+pub mod Constants
+pub mod Typing

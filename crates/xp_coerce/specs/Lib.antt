@@ -1,0 +1,5 @@
+pub mod Asked
+pub mod Coerced
+pub mod Types
+pub mod Ways
+pub mod inner
