@@ -1,0 +1,4 @@
+pub mod Ascii
+pub mod Progress
+pub mod Reading
+pub mod Steps
