@@ -1,0 +1,4 @@
+pub mod Parts
+pub mod Weeks
+pub mod Made
+pub mod Digits
