@@ -1,0 +1,75 @@
+//! Whether a tree can be evaluated.
+ghost use Rattle.std.specs.Prelude.{◌≡◌};
+ghost use Rattle.xp_call.specs.Calls.{is_built};
+ghost use Rattle.xp_meaning.specs.Evaluable as spec;
+ghost use Rattle.xp_tree.specs.Rests.{is_represented};
+ghost use Rattle.xp_tree.specs.Term.{terms};
+
+use xp_base::BodyNo;
+use xp_call::is_built;
+use xp_tree::{Node, NodeType, Tree};
+use xp_value::Rep;
+
+fn has_body(body: Option<BodyNo>) -> bool
+    ensures { result ≡ spec.has_body is_built body }
+{
+    match body {
+        Some(body) => is_built(body),
+        None => false,
+    }
+}
+
+fn is_represented(ty: NodeType) -> bool
+    ensures { result ≡ is_represented ty }
+{
+    ty.rep != Rep::Opaque
+}
+
+/// Whether each node of the tree can be evaluated.
+#[cycle(evaluable)]
+#[tactic(auto, using(xp_tree::proofs::Rest::height_at, crate::proofs::Rest::no_domain))]
+pub fn is_evaluable(tree: &Tree) -> bool
+    ensures { result ≡ spec.is_evaluable is_built tree.now }
+{
+    match tree.top() {
+        Node::Constant { ty, .. } | Node::Column { ty, .. } => is_represented(*ty),
+        Node::Relabel { arg, ty } => is_represented(*ty) && is_evaluable(arg),
+        Node::Call { callee, args, ty } => {
+            has_body(callee.body) && is_represented(*ty) && all_evaluable(args.as_slice())
+        }
+        Node::Given { .. }
+        | Node::Output { .. }
+        | Node::Input { .. }
+        | Node::Elements { .. }
+        | Node::Sizing { .. }
+        | Node::Domain { .. }
+        | Node::And { .. }
+        | Node::Or { .. }
+        | Node::Not { .. }
+        | Node::IsNull { .. }
+        | Node::IsTrue { .. }
+        | Node::IsFalse { .. }
+        | Node::IsUnknown { .. }
+        | Node::Case { .. }
+        | Node::Coalesce { .. }
+        | Node::Greatest { .. }
+        | Node::Least { .. }
+        | Node::Array { .. }
+        | Node::NullIf { .. }
+        | Node::Distinct { .. }
+        | Node::Subscript { .. } => false,
+    }
+}
+
+#[cycle(evaluable)]
+#[tactic(auto, using(xp_tree::proofs::Rest::height_at, xp_base::proofs::Lists::drop_one, xp_base::proofs::Lists::drop_none))]
+fn all_evaluable(trees: &[Tree]) -> bool
+    ensures { result ≡ spec.all_evaluable is_built (terms trees.now) }
+{
+    'trees: for tree in trees {
+        if !is_evaluable(tree) {
+            return false;
+        }
+    }
+    true
+}
