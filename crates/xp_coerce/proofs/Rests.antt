@@ -50,7 +50,7 @@ fits_name name = of_name FitsName name
     })
     (λ opaque ty is some. let none : ty.rep ≡ rep.Opaque = is ∙ ap built opaque in let never : false ≡ true = rw none at some in cc never)
 
-not_shown : (ty : NodeType) → ty.rep ≡ rep.Opaque → is_represented ty ≡ true → ⊥
+pub not_shown : (ty : NodeType) → ty.rep ≡ rep.Opaque → is_represented ty ≡ true → ⊥
 not_shown ty is some = let never : false ≡ true = rw is at some in cc never
 
 fits_kind : (k : TypeKind) (name : List ℕ) (ty : NodeType) → ty.rep ≡ rep_by k name → is_represented ty ≡ true → list_any (λ element. fit_each element (name ∷ []) (ty ∷ [])) element_reps ≡ true
@@ -62,11 +62,11 @@ fits_kind (kind.Domain number) name ty is some = absurd (not_shown ty is some)
 
 -- ---- a body that agrees with its function
 
-record Agrees (c : Contents) (f : FuncRow) (body : Row) : Type 0 where
-  strict : f.strict ≡ body.strict
-  args : are_named c f.args body.args ≡ true
+pub record Agrees (c : Contents) (f : FuncRow) (body : Row) : Type 0 where
+  pub strict : f.strict ≡ body.strict
+  pub args : are_named c f.args body.args ≡ true
 
-agreed : (c : Contents) (f : FuncRow) (body : Row) → agrees c f body ≡ true → Agrees c f body
+pub agreed : (c : Contents) (f : FuncRow) (body : Row) → agrees c f body ≡ true → Agrees c f body
 agreed c f body is =
     let all = and_parts (beq f.variadic body.variadic && beq f.strict body.strict && is_as_loose f.volatility body.volatility && is_named c f.result body.result) (are_named c f.args body.args) is in
     let four = and_parts (beq f.variadic body.variadic && beq f.strict body.strict && is_as_loose f.volatility body.volatility) (is_named c f.result body.result) all.0 in
@@ -74,7 +74,7 @@ agreed c f body is =
     let two = and_parts (beq f.variadic body.variadic) (beq f.strict body.strict) three.0 in
     record { strict = (booleans_Decides f.strict body.strict).0 two.1; args = all.1 }
 
-named_is : (c : Contents) (type : TypeNo) (name : List ℕ) → is_named c type name ≡ true → name_of c type ≡ name
+pub named_is : (c : Contents) (type : TypeNo) (name : List ℕ) → is_named c type name ≡ true → name_of c type ≡ name
 named_is c type name is = go (slice_get c.types type.0) refl
   where
     go : (o : Option TypeRow) → slice_get c.types type.0 ≡ o → name_of c type ≡ name

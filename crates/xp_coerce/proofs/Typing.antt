@@ -52,7 +52,7 @@ converts ByOutput a ty fits = fits
 converts ByInput a ty fits = fits
 converts ByRelabel a ty fits = fits
 
-array_kept : (c : Contents) (type from : TypeNo) → element c (base c type) ≡ Some from → rep_of c type ≡ rep.Opaque
+pub array_kept : (c : Contents) (type from : TypeNo) → element c (base c type) ≡ Some from → rep_of c type ≡ rep.Opaque
 array_kept c type from at = go (kind_of c (base c type)) refl
   where
     go : (k : TypeKind) → kind_of c (base c type) ≡ k → rep_of c type ≡ rep.Opaque
@@ -62,7 +62,7 @@ array_kept c type from at = go (kind_of c (base c type)) refl
     go (kind.Range number) is = rw is refl
     go (kind.Domain number) is = rw is refl
 
-is_array : (ty : NodeType) → ty.rep ≡ rep.Opaque → IsArray ty
+pub is_array : (ty : NodeType) → ty.rep ≡ rep.Opaque → IsArray ty
 is_array ty is = λ some. let never : false ≡ true = rw is at some in cc never
 
 -- a node of the base type converts the elements of an array

@@ -1,5 +1,5 @@
 -- The tree that a tree becomes as one of another type (manual 10.1 to 10.4; CREATE CAST, CREATE DOMAIN).
-use Rattle.std.specs.Prelude.{List, Bool, true, false, Result, Ok, Err, slice_get}
+use Rattle.std.specs.Prelude.{ℕ, List, Bool, true, false, Result, Ok, Err, slice_get}
 use Rattle.std.specs.Option.{option_map_or}
 use Rattle.std.specs.Result.{result_map_both}
 use Rattle.xp_base.specs.declared.codes.Code.TheVariants.{Raised}
@@ -36,9 +36,13 @@ constant_of c type v = leaf (constant v) (node_type c type)
 abbrev pub bad_literal : EvalError → CoerceFault
 bad_literal error = BadLiteral (Raised error)
 
+-- the constant of the type that a text is
+abbrev pub read_text : Contents → TypeNo → List ℕ → Result Term CoerceFault
+read_text c type text = result_map_both (constant_of c type) bad_literal (input (shape_of c type) text)
+
 -- the text of a literal is read as a text of the type, and a null is a null of it
 abbrev pub read_value : Contents → TypeNo → Value → Result Term CoerceFault
-read_value c type (value.Opaque text) = result_map_both (constant_of c type) bad_literal (input (shape_of c type) text)
+read_value c type (value.Opaque text) = read_text c type text
 read_value c type v = Ok (constant_of c type v)
 
 -- a literal as a constant of the type; no tree but a constant has none

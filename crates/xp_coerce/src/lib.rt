@@ -14,6 +14,6 @@ mod ways;
 
 pub use conversion::coerce;
 pub use fault::CoerceFault;
-pub use literals::{literal, null};
+pub use literals::{literal, null, read_text};
 pub use types::node_type;
 pub use ways::callee_of;

@@ -1,6 +1,5 @@
 //! Literals, which get a type where one is wanted (manual 10.1).
 ghost use Rattle.std.specs.Prelude.{◌≡◌, ◌≤◌, IfOk, length, true};
-ghost use Rattle.std.specs.Result.{result_map_both};
 ghost use Rattle.xp_base.specs.OrMemory.{OrMemory};
 ghost use Rattle.xp_value.specs.Representation.{has, plain};
 ghost use Rattle.xp_value.specs.declared.value.Rep.TheVariants as rep;
@@ -8,10 +7,8 @@ ghost use Rattle.xp_value.specs.declared.value.Value.TheVariants.{Null, Opaque};
 ghost use Rattle.xp_types.specs.Readers.{unknown};
 ghost use Rattle.xp_types.specs.Within.{IsType};
 ghost use Rattle.xp_tree.specs.Term.{constant, leaf, type_of};
-ghost use Rattle.xp_io.specs.Forms.{input};
-ghost use Rattle.xp_io.specs.Representations.{shape_of};
 ghost use Rattle.xp_coerce.specs.Asked.{IsSource, is_constant};
-ghost use Rattle.xp_coerce.specs.Coerced.{bad_literal, constant_of, is_memory, read, read_value};
+ghost use Rattle.xp_coerce.specs.Coerced.{is_memory, read, read_text, read_value};
 ghost use Rattle.xp_coerce.specs.Types.{node_type};
 
 use crate::fault::CoerceFault;
@@ -45,11 +42,11 @@ pub fn null(alloc: Global, c: &Catalog) -> Result<Tree, Memory>
     Tree::make_constant(alloc, Value::Null, node_type(c, UNKNOWN))
 }
 
-/// The constant of the type that a text is.
+/// The constant of the type that a text is, or that the text is none of it.
 #[tactic(auto, using(crate::proofs::Constants::read_err, crate::proofs::Constants::read_fits, crate::proofs::Constants::read_ok))]
-fn read_text(alloc: Global, c: &Catalog, text: &[u8], ty: TypeNo) -> Result<Tree, CoerceFault>
+pub fn read_text(alloc: Global, c: &Catalog, text: &[u8], ty: TypeNo) -> Result<Tree, CoerceFault>
     requires { IsType c.now ty }
-    ensures value { OrMemory is_memory (result_map_both (constant_of c.now ty) bad_literal (input (shape_of c.now ty) text.now)) result }
+    ensures value { OrMemory is_memory (read_text c.now ty text.now) result }
     ensures typed { IfOk result (λ a. type_of a ≡ node_type c.now ty) }
 {
     match read_value(alloc, c, ty, text) {

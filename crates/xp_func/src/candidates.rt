@@ -9,7 +9,7 @@ ghost use Rattle.xp_candidates.specs.Accepted.{IsCandidate};
 ghost use Rattle.xp_candidates.specs.Forms.{forms_from};
 ghost use Rattle.xp_func.specs.Candidates.{candidates, forms_of, is_covered, is_meant, named_forms, own_form, unexpanded, unexpanded_of};
 
-use crate::expansion::expansion;
+use crate::expanded::expansion;
 use sqlite_items::Items;
 use std::alloc::{AllocError, Global};
 use xp_base::{RowNo, TypeNo};
@@ -29,7 +29,7 @@ fn is_meant(name: &str, count: usize, variadic: bool, func: &FuncRow) -> bool
 }
 
 /// A record as it stands.
-fn unexpanded_of(alloc: Global, number: u32, func: &FuncRow) -> Result<Candidate, AllocError>
+pub fn unexpanded_of(alloc: Global, number: u32, func: &FuncRow) -> Result<Candidate, AllocError>
     ensures { IfOk result (λ candidate. candidate ≡ unexpanded_of number func.now) }
 {
     Ok(Candidate {

@@ -5,11 +5,13 @@
 
 mod candidates;
 mod exact;
-mod expansion;
+mod expanded;
 mod laws;
 mod pick;
 mod request;
 
+pub use candidates::unexpanded_of;
+pub use expanded::expansion;
 pub use laws::{a_candidate_is_picked, other_functions_change_nothing};
 pub use pick::{PickedFunc, pick_function};
 pub use xp_candidates::Pick;

@@ -1,3 +1,4 @@
 pub mod Names
 pub mod Modifiers
 pub mod Named
+pub mod Columns

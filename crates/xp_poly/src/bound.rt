@@ -1,12 +1,11 @@
 //! The types that stand for declared types in a call (manual 38.2.5).
-ghost use Rattle.std.specs.Prelude.{◌≡◌, ◌<◌, ◌≤◌, IfSome, cond, find, length, map, true, unwrap_or, zip};
+ghost use Rattle.std.specs.Prelude.{◌≡◌, ◌<◌, ◌≤◌, IfSome, cond, find, length, map, unwrap_or, zip};
 ghost use Rattle.std.specs.Option.{option_map_or};
 ghost use Rattle.xp_base.specs.declared.limits.TheConstants.{ARGUMENT_LIMIT};
 ghost use Rattle.xp_types.specs.Common.{text};
 ghost use Rattle.xp_types.specs.Readers.{is_same, unknown};
 ghost use Rattle.xp_types.specs.Within.{AreTypes, IsType};
 ghost use Rattle.xp_poly.specs.Members.{AreKnownTypes, given};
-ghost use Rattle.xp_poly.specs.Acceptance.{accepts};
 ghost use Rattle.xp_poly.specs.Bound.{AreBonds, IfConcrete, IsBond, bond_of, any_type, bonds, bound, concrete, concrete_at, concrete_by, concrete_types, first_bond, has_no_element, is_indeterminate, member_type, range_over, second_bond};
 ghost use Rattle.xp_poly.specs.Roles.{role};
 ghost use Rattle.xp_catalog.specs.declared.rows.Family.TheVariants.{First, Second};
@@ -168,9 +167,10 @@ fn is_indeterminate(c: &Catalog, declared: &[TypeNo], first: &[KnownInput]) -> b
     uses(c, Family::First, declared) && first.is_empty()
 }
 
-/// The types that stand in the call for the declared types, and for that of the result, where the
-/// declared types accept the inputs. They are written to `out`, which stays as it is where the
-/// answer is `Indeterminate`. An array type or a range type that isn't there is given as `unknown`.
+/// The types that stand in the call for the declared types, and for that of the result. Whether the
+/// declared types accept the inputs is not asked. The types are written to `out`, which stays as it
+/// is where the answer is `Indeterminate`. An array type or a range type that isn't there is given
+/// as `unknown`.
 pub fn bind(
     c: &Catalog,
     declared: &[TypeNo],
@@ -184,7 +184,6 @@ pub fn bind(
     requires declared { AreTypes c.now declared.now }
     requires declared_result { IsType c.now declared_result }
     requires inputs { AreTypes c.now inputs.now }
-    requires accepted { accepts c.now declared.now inputs.now ≡ true }
     ensures binding { result ≡ bound c.now declared.now declared_result inputs.now }
     ensures out { out.new ≡ cond (is_indeterminate c.now declared.now inputs.now) out.old (concrete_types c.now (zip declared.now inputs.now)) }
     ensures within { IfConcrete result (IsType c.now) }

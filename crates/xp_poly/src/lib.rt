@@ -11,3 +11,4 @@ mod room;
 
 pub use acceptance::accepts;
 pub use bound::{Binding, bind};
+pub use roles::{Form, Role, declared_role};

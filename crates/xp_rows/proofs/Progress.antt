@@ -14,7 +14,8 @@ use Rattle.xp_rows.specs.declared.fault.RowsFault.{RowsFault}
 use Rattle.xp_rows.specs.Faults.{Loads, and_then, followed, is_outside}
 use Rattle.xp_rows.specs.Fields.{placed, row_of, row_values, value_of, values_from}
 use Rattle.xp_rows.specs.Fits.{fits}
-use Rattle.xp_rows.specs.Headers.{AreColumns, IsColumn, column_of, columns_from, named}
+use Rattle.xp_named.specs.Columns.{AreColumns, IsColumn}
+use Rattle.xp_rows.specs.Headers.{column_of, columns_from, named}
 use Rattle.xp_io.specs.Representations.{shape_of}
 use Rattle.xp_rows.specs.Loading.{rows_from}
 use Rattle.xp_rows.specs.Records.{field}

@@ -6,7 +6,7 @@ use Rattle.xp_value.specs.Representation.{is_of}
 use Rattle.xp_catalog.specs.declared.header.HeaderColumn.{HeaderColumn}
 use Rattle.xp_catalog.specs.Contents.{Contents}
 use Rattle.xp_io.specs.Representations.{shape_of}
-use Rattle.xp_rows.specs.Headers.{AreColumns}
+use Rattle.xp_named.specs.Columns.{AreColumns}
 
 -- as many values as columns, each null or of its column's type
 abbrev pub fits : Contents → List HeaderColumn → List Value → Bool

@@ -1,7 +1,7 @@
 -- The columns that the first record of a rows file names (this project's own).
-use Rattle.std.specs.Prelude.{◌≡◌, ◌<◌, ℕ, ◌+◌, List, [], ◌∷◌, ◌++◌, Bool, true, ◌==◌, cond, is_some, length, nat_lt, Option, None, Result, Ok, Err}
+use Rattle.std.specs.Prelude.{ℕ, ◌+◌, List, [], ◌∷◌, ◌++◌, Bool, ◌==◌, cond, is_some, length, nat_lt, Option, None, Result, Ok, Err}
 use Rattle.std.specs.Char.{is_ascii}
-use Rattle.std.specs.List.{after_first, before_first, list_all, All}
+use Rattle.std.specs.List.{after_first, before_first, list_all}
 use Rattle.std.specs.Option.{option_map_or}
 use Rattle.xp_base.specs.declared.limits.TheConstants.{COLUMN_LIMIT}
 use Rattle.xp_base.specs.declared.numbers.TypeNo.{TypeNo}
@@ -12,7 +12,6 @@ use Rattle.xp_catalog.specs.Contents.{Contents}
 use Rattle.xp_catalog.specs.Headers.{column_named}
 use Rattle.xp_catalog.specs.Spelling.{is_name}
 use Rattle.xp_named.specs.Named.{header_type}
-use Rattle.xp_named.specs.Names.{is_value_type}
 use Rattle.xp_rows.specs.declared.fault.RowsFault.{RowsFault}
 use Rattle.xp_rows.specs.declared.fault.RowsFault.TheVariants.{Header}
 use Rattle.xp_rows.specs.Faults.{and_then}
@@ -56,11 +55,3 @@ columns_from c before (text ∷ rest) = and_then (named (length before + 1) (col
 -- the columns of a first record
 abbrev pub header_of : Contents → List (List ℕ) → Result (List HeaderColumn) RowsFault
 header_of c fields = columns_from c [] fields
-
--- each column's type is one that values may have
-pub record IsColumn (c : Contents) (column : HeaderColumn) : Type 0 where
-  pub within : column.ty.0 < length c.types
-  pub valued : is_value_type c column.ty ≡ true
-
-abbrev pub AreColumns : Contents → List HeaderColumn → Type 0
-AreColumns c header = All (IsColumn c) header

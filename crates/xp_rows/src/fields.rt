@@ -2,11 +2,11 @@
 ghost use Rattle.std.specs.Prelude.{◌≡◌, ◌<◌, ◌≤◌, IfOk, length, true};
 ghost use Rattle.std.specs.List.{All};
 ghost use Rattle.csv.specs.Records.{fields_of};
+ghost use Rattle.xp_named.specs.Columns.{AreColumns};
 ghost use Rattle.xp_io.specs.Forms.{Reads};
 ghost use Rattle.xp_io.specs.Representations.{shape_of};
 ghost use Rattle.xp_rows.specs.Fields.{placed, row_values, unescaped, value_of};
 ghost use Rattle.xp_rows.specs.Fits.{fits};
-ghost use Rattle.xp_rows.specs.Headers.{AreColumns};
 ghost use Rattle.xp_rows.specs.Faults.{Loads};
 ghost use Rattle.xp_value.specs.Representation.{is_of};
 

@@ -4,8 +4,9 @@ ghost use Rattle.std.specs.Char.{is_ascii};
 ghost use Rattle.std.specs.List.{after_first, before_first, list_all, position};
 ghost use Rattle.csv.specs.Records.{fields_of};
 ghost use Rattle.xp_catalog.specs.Headers.{column_named};
+ghost use Rattle.xp_named.specs.Columns.{AreColumns, IsColumn};
 ghost use Rattle.xp_named.specs.Names.{is_value_type};
-ghost use Rattle.xp_rows.specs.Headers.{AreColumns, IsColumn, column_of, header_of, is_space, named, type_named};
+ghost use Rattle.xp_rows.specs.Headers.{column_of, header_of, is_space, named, type_named};
 ghost use Rattle.xp_rows.specs.Faults.{Loads};
 
 use crate::fault::RowsFault;

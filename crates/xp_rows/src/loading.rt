@@ -1,9 +1,9 @@
 //! Rows files.
 ghost use Rattle.std.specs.Prelude.{◌≡◌, ◌-◌, ◌^◌, ◌≤◌, IfOk, length, true};
 ghost use Rattle.std.specs.List.{All};
+ghost use Rattle.xp_named.specs.Columns.{AreColumns};
 ghost use Rattle.xp_rows.specs.Faults.{Loads};
 ghost use Rattle.xp_rows.specs.Fits.{AreRows, fits};
-ghost use Rattle.xp_rows.specs.Headers.{AreColumns};
 ghost use Rattle.xp_rows.specs.Loading.{load_rows, rows_from};
 ghost use Rattle.xp_rows.specs.inner.Reader.{IsOver, records_left};
 

@@ -1,6 +1,7 @@
 use Rattle.std.proofs.Common.{◌≡◌, ◌≤◌, [], drop, length}
 use Rattle.csv.specs.Records.{fields_of}
-use Rattle.xp_rows.specs.Headers.{AreColumns, columns_from}
+use Rattle.xp_named.specs.Columns.{AreColumns}
+use Rattle.xp_rows.specs.Headers.{columns_from}
 use Rattle.xp_rows.proofs.header.read_header.Given as goal
 
 -- the rest of the fields, behind the columns so far, name what all of them name

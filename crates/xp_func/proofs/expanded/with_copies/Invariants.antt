@@ -1,6 +1,6 @@
 use Rattle.std.proofs.Common.{◌≡◌, ◌<◌, ◌++◌, length, replicate}
 use Rattle.std.specs.List.{All}
-use Rattle.xp_func.proofs.expansion.with_copies.Given as goal
+use Rattle.xp_func.proofs.expanded.with_copies.Given as goal
 
 -- the types, and the copies so far
 abbrev pub invariant-loop-copy : goal.invariant-loop-copy
