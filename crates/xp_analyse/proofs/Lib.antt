@@ -1,0 +1,17 @@
+pub mod Queues
+pub mod Steps
+pub mod Converting
+pub mod Ordered
+pub mod Picking
+pub mod Reading
+pub mod NodeLists
+pub mod PseudoNames
+pub mod TextTypes
+pub mod SettledBodies
+pub mod CallRests
+pub mod TargetLists
+pub mod AnyLast
+pub mod Standing
+pub mod Forms
+pub mod ArgsStand
+pub mod ChosenForms

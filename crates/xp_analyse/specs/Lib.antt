@@ -1,0 +1,10 @@
+pub mod Scene
+pub mod Made
+pub mod Nodes
+pub mod Order
+pub mod Conversions
+pub mod Literals
+pub mod Targets
+pub mod Calls
+pub mod Operators
+pub mod inner

@@ -1,0 +1,58 @@
+//! Lists that are taken from their ends.
+ghost use Rattle.std.specs.Prelude.{◌≡◌, ◌≤◌, ◌++◌, ◌∷◌, [], IfOk, OnOk, length, reverse};
+
+use sqlite_items::Items;
+use std::alloc::Global;
+use xp_base::Memory;
+
+/// The last first.
+#[tactic(auto, using(crate::proofs::Queues::moved))]
+pub fn reversed<T: Drop>(alloc: Global, items: Items<T>) -> Result<Items<T>, Memory>
+    ensures { IfOk result (λ turned. turned ≡ reverse items) }
+{
+    let mut left = items;
+    let mut turned = Items::new(alloc);
+    while let Some(item) = left.pop() {
+        turned.push(item)?;
+    }
+    Ok(turned)
+}
+
+/// So many of the last ones, the last first, which are taken off.
+#[tactic(auto, using(crate::proofs::Queues::moved))]
+fn taken_off<T: Drop>(alloc: Global, items: &mut Items<T>, count: usize) -> Result<Items<T>, Memory>
+    requires { count ≤ length items.old }
+    ensures whole { IfOk result (λ turned. items.new ++ reverse turned ≡ items.old) }
+    ensures count { IfOk result (λ turned. length turned ≡ count) }
+{
+    let mut turned = Items::new(alloc);
+    for _place in 0..count {
+        match items.pop() {
+            Some(item) => turned.push(item)?,
+            None => break,
+        }
+    }
+    Ok(turned)
+}
+
+/// The last ones, behind those that stay in `items`.
+pub fn split_last<T: Drop>(
+    alloc: Global,
+    items: &mut Items<T>,
+    count: usize,
+) -> Result<Items<T>, Memory>
+    requires { count ≤ length items.old }
+    ensures whole { IfOk result (λ rest. items.new ++ rest ≡ items.old) }
+    ensures count { IfOk result (λ rest. length rest ≡ count) }
+{
+    let turned = taken_off(alloc, items, count)?;
+    reversed(alloc, turned)
+}
+
+/// Adds one at the end.
+pub fn push<T: Drop>(items: &mut Items<T>, item: T) -> Result<(), Memory>
+    ensures { OnOk result (items.new ≡ items.old ++ item ∷ []) }
+{
+    items.push(item)?;
+    Ok(())
+}
