@@ -1,5 +1,5 @@
 -- What is picked, or the refusal of a choice.
-use Rattle.std.proofs.Common.{◌≡◌, ℕ, List, refl, Result, Ok, Err}
+use Rattle.std.proofs.Common.{ℕ, List, refl, Result, Ok, Err}
 use Rattle.xp_base.specs.OrMemory.{OrMemory}
 use Rattle.xp_base.specs.declared.numbers.RowNo.{RowNo}
 use Rattle.xp_base.specs.declared.numbers.TypeNo.{TypeNo}

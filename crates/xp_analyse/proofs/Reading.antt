@@ -1,7 +1,5 @@
 -- Constants that texts are.
-use Rattle.std.proofs.Common.{◌≡◌, ◌<◌, ℕ, List, true, false, length, refl, slice_get, Option, Some, None, Result, Ok, Err}
-use Rattle.std.specs.Result.{result_map_both}
-use Rattle.xp_base.specs.FromLeft.{and_then}
+use Rattle.std.proofs.Common.{◌≡◌, ℕ, List, true, false, refl, slice_get, Some, Result, Ok, Err}
 use Rattle.xp_base.specs.OrMemory.{OrMemory}
 use Rattle.xp_base.specs.declared.codes.EvalError.{EvalError}
 use Rattle.xp_base.specs.declared.numbers.TypeNo.{TypeNo}
@@ -12,7 +10,7 @@ use Rattle.xp_catalog.specs.Headers.{column_named}
 use Rattle.xp_catalog.specs.Lookups.{type_named}
 use Rattle.xp_types.specs.Readers.{is_known}
 use Rattle.xp_types.specs.Within.{IsType}
-use Rattle.xp_tree.specs.Term.{Term, column, leaf, type_of}
+use Rattle.xp_tree.specs.Term.{Term, type_of}
 use Rattle.xp_io.specs.Forms.{input}
 use Rattle.xp_io.specs.Representations.{shape_of}
 use Rattle.xp_named.specs.declared.refusal.Refusal.{Refusal}
@@ -22,9 +20,8 @@ use Rattle.xp_coerce.specs.Types.{node_type}
 use Rattle.xp_analyse.specs.declared.made.Made.{Made}
 use Rattle.xp_analyse.specs.declared.made.Progress.{Progress}
 use Rattle.xp_analyse.specs.Literals as literals
-use Rattle.xp_analyse.specs.Made.{finished, is_memory}
+use Rattle.xp_analyse.specs.Made.{is_memory}
 use Rattle.xp_analyse.specs.Scene.{Scene}
-use Rattle.xp_analyse.proofs.Steps.{same}
 
 -- a tree whose type is one that values may have
 pub known_source : (c : Contents) (type : TypeNo) (t : Term) → IsType c type → is_known type ≡ true → type_of t ≡ node_type c type → IsSource c t

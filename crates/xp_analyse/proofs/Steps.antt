@@ -1,5 +1,5 @@
 -- Results one after the other, any of which may be want of memory.
-use Rattle.std.proofs.Common.{◌≡◌, Bool, true, false, refl, sym, Result, Ok, Err}
+use Rattle.std.proofs.Common.{◌≡◌, refl, sym, Result, Ok, Err}
 use Rattle.xp_base.specs.FromLeft.{and_then}
 use Rattle.xp_base.specs.OrMemory.{OrMemory}
 use Rattle.xp_named.specs.declared.refusal.Refusal.{Refusal}

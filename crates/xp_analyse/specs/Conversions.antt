@@ -1,5 +1,5 @@
 -- What the arguments of a call are converted to, in the order in which they are written (manual 10.2, 10.3; texts of values at `any` are this project's own).
-use Rattle.std.specs.Prelude.{ℕ, ◌+◌, ◌-◌, List, [], ◌∷◌, ◌++◌, Bool, cond, codes, Option, Result, Ok, Err}
+use Rattle.std.specs.Prelude.{ℕ, ◌+◌, ◌-◌, List, [], ◌∷◌, ◌++◌, cond, codes, Result, Ok}
 use Rattle.std.specs.Option.{option_map_or}
 use Rattle.std.specs.Result.{result_map_both}
 use Rattle.xp_base.specs.FromLeft.{and_then}
@@ -10,7 +10,6 @@ use Rattle.xp_catalog.specs.declared.rows.Context.TheVariants.{Implicit, Explici
 use Rattle.xp_catalog.specs.Contents.{Contents}
 use Rattle.xp_catalog.specs.Lookups.{type_named}
 use Rattle.xp_types.specs.Readers.{array_of, base, is_array, is_known}
-use Rattle.xp_tree.specs.declared.parts.Modifier.{Modifier}
 use Rattle.xp_tree.specs.declared.parts.Modifier.TheVariants as modifier
 use Rattle.xp_tree.specs.Term.{Term, size, type_of}
 use Rattle.xp_named.specs.declared.named.NamedType.{NamedType}

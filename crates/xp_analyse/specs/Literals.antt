@@ -1,9 +1,8 @@
 -- Constants and columns (manual 4.1.2, 4.2.1, 8.14 for NULL).
-use Rattle.std.specs.Prelude.{ℕ, ◌^◌, List, Bool, true, false, ◌&&◌, cond, codes, length, nat_le, nat_lt, Option, Some, None, Result, Ok, Err, slice_get}
+use Rattle.std.specs.Prelude.{ℕ, ◌^◌, List, Bool, true, false, ◌&&◌, cond, codes, length, nat_le, nat_lt, Result, Ok, slice_get}
 use Rattle.std.specs.Option.{option_map_or}
 use Rattle.std.specs.Result.{result_map_both}
 use Rattle.xp_base.specs.FromLeft.{and_then}
-use Rattle.xp_base.specs.declared.codes.Code.{Code}
 use Rattle.xp_base.specs.declared.codes.Code.TheVariants as code
 use Rattle.xp_base.specs.declared.codes.EvalError.TheVariants.{Limit}
 use Rattle.xp_base.specs.declared.decimal.Dec.{Dec}

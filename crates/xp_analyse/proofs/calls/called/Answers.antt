@@ -1,8 +1,6 @@
-use Rattle.std.proofs.Common.{◌≡◌, ◌∙◌, ℕ, false, length, arith, nat_lt}
+use Rattle.std.proofs.Common.{◌≡◌, ◌∙◌, false, length, arith, nat_lt}
 use Rattle.std.proofs.lemmas.Bool.Decides.{nat_tests}
 use Rattle.xp_base.specs.declared.limits.TheConstants.{ARGUMENT_LIMIT}
-use Rattle.xp_base.specs.declared.numbers.TypeNo.{TypeNo}
-use Rattle.std.specs.Prelude.{List}
 use Rattle.xp_analyse.specs.Calls.{types_of}
 use Rattle.xp_analyse.specs.Order.{in_order}
 use Rattle.xp_analyse.proofs.calls.called.Goals as goal

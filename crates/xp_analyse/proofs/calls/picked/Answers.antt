@@ -1,4 +1,3 @@
-use Rattle.std.proofs.Common.{◌≡◌}
 use Rattle.xp_func.specs.Picked.{picked_function}
 use Rattle.xp_func.specs.declared.pick.PickedFunc.TheVariants as picked
 use Rattle.xp_analyse.proofs.Picking.{call_err, call_ok}

@@ -1,4 +1,4 @@
-use Rattle.std.proofs.Common.{◌≡◌, ◌++◌, drop, map}
+use Rattle.std.proofs.Common.{◌≡◌, ◌++◌, drop}
 use Rattle.xp_types.specs.Within.{AreTypes}
 use Rattle.xp_analyse.specs.Calls.{types_of}
 use Rattle.xp_analyse.proofs.calls.types_of.Given as goal

@@ -1,12 +1,9 @@
-use Rattle.std.proofs.Common.{◌≡◌, ◌∙◌, sym, ap, ◌++◌, [], drop, length, map, arith, Ok}
-use Rattle.std.proofs.lemmas.List.{append-nil}
+use Rattle.std.proofs.Common.{◌∙◌, sym, ap, length, arith}
 use Rattle.xp_base.proofs.Lists.{drop_none}
 use Rattle.xp_coerce.specs.Asked.{IsSource}
-use Rattle.xp_tree.specs.Term.{type_of}
 use Rattle.xp_analyse.specs.declared.made.Part.{Part}
 use Rattle.xp_analyse.specs.Conversions.{arguments}
-use Rattle.xp_analyse.specs.inner.Sources.{target_type}
-use Rattle.xp_analyse.proofs.Converting.{arguments_fault, arguments_more, arguments_out, first_is, rest_are, typed_more}
+use Rattle.xp_analyse.proofs.Converting.{arguments_more, arguments_out, first_is, rest_are, typed_more}
 use Rattle.xp_analyse.proofs.conversions.arguments.Goals as goal
 
 pub argument-requires-clause-source : goal.argument-requires-clause-source

@@ -1,4 +1,4 @@
-use Rattle.std.proofs.Common.{◌≡◌, ◌+◌, ◌++◌, length, reverse}
+use Rattle.std.proofs.Common.{◌≡◌, ◌++◌, length, reverse}
 use Rattle.xp_analyse.proofs.lists.taken_off.Given as goal
 
 -- what is left, and behind it what was taken off, are all

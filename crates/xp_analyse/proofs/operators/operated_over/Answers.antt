@@ -1,4 +1,3 @@
-use Rattle.std.proofs.Common.{◌≡◌}
 use Rattle.xp_oper.specs.Picked.{picked_operator}
 use Rattle.xp_analyse.proofs.Picking.{operation_err, operation_ok}
 use Rattle.xp_analyse.proofs.operators.operated_over.Goals as goal
