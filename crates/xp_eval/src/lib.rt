@@ -8,6 +8,6 @@ mod constants;
 mod evaluable;
 mod walk;
 
-pub use constants::early;
+pub use constants::{early, early_all};
 pub use evaluable::is_evaluable;
 pub use walk::{eval, eval_all};

@@ -21,6 +21,21 @@ fn append_integer(number: i64, out: &mut Byts) -> Result<(), Memory>
     out.append(digits.format(number).as_bytes())
 }
 
+/// Adds the text of a value that isn't null.
+pub fn write_text(v: &Value, out: &mut Byts) -> Result<(), Memory>
+    ensures ok { OnOk result (out.new ≡ out.old ++ output v.now) }
+    ensures err { OnErr result (out.new ≡ out.old) }
+{
+    match v {
+        Value::Bool(truth) => out.append(output_bool(*truth).as_bytes()),
+        Value::Int(number) => append_integer(*number, out),
+        Value::Text(text) | Value::Pad(text) | Value::Opaque(text) => {
+            out.append(text.as_str().as_bytes())
+        }
+        _ => Ok(()),
+    }
+}
+
 /// Adds the text of a value of the type.
 #[tactic(auto, using(crate::proofs::Back::of_type))]
 pub fn write_value(c: &Catalog, t: TypeNo, v: &Value, out: &mut Byts) -> Result<(), Memory>
@@ -31,12 +46,5 @@ pub fn write_value(c: &Catalog, t: TypeNo, v: &Value, out: &mut Byts) -> Result<
     ensures err { OnErr result (out.new ≡ out.old) }
     ensures reads_back { ReadsBack (shape_of c.now t) v.now }
 {
-    match v {
-        Value::Bool(truth) => out.append(output_bool(*truth).as_bytes()),
-        Value::Int(number) => append_integer(*number, out),
-        Value::Text(text) | Value::Pad(text) | Value::Opaque(text) => {
-            out.append(text.as_str().as_bytes())
-        }
-        _ => Ok(()),
-    }
+    write_text(v, out)
 }
