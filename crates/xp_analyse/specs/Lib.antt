@@ -1,0 +1,3 @@
+pub mod Expressions
+pub mod Built
+pub mod Statements
