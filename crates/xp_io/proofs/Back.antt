@@ -22,6 +22,7 @@ use Rattle.xp_io.specs.Booleans.{output_bool}
 use Rattle.xp_io.specs.Forms.{by_form, has_zero_byte, input, int_value, output, ReadsBack}
 use Rattle.xp_value.specs.Null.{is_null}
 use Rattle.xp_io.specs.Integers.{input_integer}
+use Rattle.xp_io.specs.inner.Chars.{IsChars}
 use Rattle.xp_io.specs.Representations.{built, rep_by, rep_of, shape_of}
 use Rattle.xp_value.specs.Names.{rep_named}
 use Rattle.xp_io.proofs.Decimals.{in_range, small}
@@ -63,13 +64,6 @@ letter_ascii c h (suc i) = omega arith
 bool_utf8 : (truth : Bool) → IsUtf8 (output_bool truth)
 bool_utf8 true = IsUtf8-from_ascii (116 ∷ []) (letter_ascii 116 (omega arith))
 bool_utf8 false = IsUtf8-from_ascii (102 ∷ []) (letter_ascii 102 (omega arith))
-
--- the text of a value is UTF-8, where it isn't made of digits
-abbrev pub IsChars : Value → Type 0
-IsChars (value.Text text) = IsUtf8 text
-IsChars (value.Pad text) = IsUtf8 text
-IsChars (value.Opaque text) = IsUtf8 text
-IsChars v = Unit {0}
 
 -- ---- by representations: values of any other kind aren't of them
 

@@ -2,6 +2,7 @@
 ghost use Rattle.std.specs.Prelude.{◌≡◌, ◌<◌, ◌++◌, OnErr, OnOk, false, length, true};
 ghost use Rattle.std.specs.Fmt.{signed_decimal};
 ghost use Rattle.xp_io.specs.Forms.{ReadsBack, output};
+ghost use Rattle.xp_io.specs.inner.Chars.{IsChars};
 ghost use Rattle.xp_value.specs.Null.{is_null};
 ghost use Rattle.xp_io.specs.Representations.{shape_of};
 ghost use Rattle.xp_value.specs.Representation.{is_of};
@@ -36,6 +37,15 @@ pub fn write_text(v: &Value, out: &mut Byts) -> Result<(), Memory>
     }
 }
 
+/// A law: what a value has of texts is UTF-8.
+fn texts_are_utf8_law(v: &Value)
+    ensures { IsChars v.now }
+{
+    if let Value::Text(text) | Value::Pad(text) | Value::Opaque(text) = v {
+        text.as_str();
+    }
+}
+
 /// Adds the text of a value of the type.
 #[tactic(auto, using(crate::proofs::Back::of_type))]
 pub fn write_value(c: &Catalog, t: TypeNo, v: &Value, out: &mut Byts) -> Result<(), Memory>
@@ -46,5 +56,6 @@ pub fn write_value(c: &Catalog, t: TypeNo, v: &Value, out: &mut Byts) -> Result<
     ensures err { OnErr result (out.new ≡ out.old) }
     ensures reads_back { ReadsBack (shape_of c.now t) v.now }
 {
+    texts_are_utf8_law(v);
     write_text(v, out)
 }
