@@ -1,5 +1,5 @@
 -- Which expressions are built, and where an expression begins.
-use Rattle.std.specs.Prelude.{ℕ, List, Bool, true, false, ◌&&◌, Option, min}
+use Rattle.std.specs.Prelude.{ℕ, List, Bool, true, false, ◌&&◌, Option, map, min}
 use Rattle.std.specs.List.{list_all}
 use Rattle.std.specs.Option.{option_map_or}
 use Rattle.xp_grammar.specs.declared.ast.Ast.{Ast, fold-Ast}
@@ -41,6 +41,9 @@ is_form_built _ = false
 
 abbrev pub is_built : Ast → Bool
 is_built = fold-Ast Bool (Unit {0}) is_form_built (λ arm. tt)
+
+abbrev pub are_built : List Ast → Bool
+are_built expressions = all_true (map is_built expressions)
 
 -- the first byte of a form: an operand that stands before its operator, or the form's first word
 abbrev pub first_of_form : Ast-F ℕ (Unit {0}) → ℕ

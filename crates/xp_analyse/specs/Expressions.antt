@@ -1,9 +1,10 @@
 -- What an expression means: each form over what its parts mean, which are resolved from left to right, and then the form itself (manual 4.2, 9.4, 9.9, 10.2, 10.3).
-use Rattle.std.specs.Prelude.{ℕ, List, [], ◌∷◌, ◌++◌, Bool, true, false, codes, Option, Some, None, Result, Ok}
-use Rattle.std.specs.Option.{option_map_or}
+use Rattle.std.specs.Prelude.{ℕ, ◌^◌, List, [], ◌∷◌, ◌++◌, Bool, true, false, codes, refl, Option, Some, None, Result, Ok}
+use Rattle.std.proofs.lemmas.Bool.{ltb-true, leb-true, false≢true}
 use Rattle.xp_base.specs.FromLeft.{and_then}
 use Rattle.xp_base.specs.declared.codes.Code.TheVariants as code
 use Rattle.xp_base.specs.declared.codes.EvalError.TheVariants.{Limit}
+use Rattle.xp_base.specs.declared.decimal.Dec.{Dec}
 use Rattle.xp_base.specs.declared.numbers.Span.{Span}
 use Rattle.xp_catalog.specs.declared.rows.Context.TheVariants.{Explicit}
 use Rattle.xp_grammar.specs.declared.ast.Ast.{Ast, fold-Ast}
@@ -79,9 +80,19 @@ abbrev pub optional : Option Resolution → List Resolution
 optional None = []
 optional (Some operand) = operand ∷ []
 
+abbrev pub one : Dec
+one = record {
+  neg = false;
+  coef = 1;
+  scale = 0;
+  digits = ltb-true 1 (10 ^ 38) refl;
+  decimals = leb-true 0 38 refl;
+  no_negative_zero = λ never. absurd (false≢true never);
+}
+
 -- where FROM is left out it is 1
 abbrev pub or_one : Scene → Span → Option Resolution → Resolution
-or_one scene at None = number scene at.start (record { neg = false; coef = 1; scale = 0 }) true
+or_one scene at None = number scene at.start one true
 or_one scene at (Some operand) = operand
 
 -- without a side it is BOTH

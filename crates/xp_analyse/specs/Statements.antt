@@ -1,10 +1,8 @@
 -- What analysis makes of a statement: the trees of its expressions, their types and the overloads that are chosen, or the first refusal (manual 4.2, 10; the order is this project's own).
-use Rattle.std.specs.Prelude.{ℕ, List, [], ◌∷◌, ◌++◌, Bool, true, false, cond, map, Option, Some, None, Result, Ok}
-use Rattle.std.specs.List.{list_all}
+use Rattle.std.specs.Prelude.{ℕ, List, [], ◌∷◌, Bool, true, false, cond, map, Option, Some, None, Result, Ok}
 use Rattle.std.specs.Option.{option_map_or}
 use Rattle.xp_base.specs.FromLeft.{and_then}
 use Rattle.xp_base.specs.declared.codes.Code.TheVariants as code
-use Rattle.xp_base.specs.declared.numbers.Span.{Span}
 use Rattle.xp_base.specs.declared.numbers.TypeNo.{TypeNo}
 use Rattle.xp_call.specs.Calls.{is_built}
 use Rattle.xp_catalog.specs.declared.header.HeaderColumn.{HeaderColumn}
@@ -29,7 +27,6 @@ use Rattle.xp_resolve.specs.Conversions.{converted, none_yet, plainly, with_last
 use Rattle.xp_resolve.specs.Made.{refused}
 use Rattle.xp_resolve.specs.Scene.{Scene}
 use Rattle.xp_analyse.specs.declared.typed.Typed.{Typed}
-use Rattle.xp_analyse.specs.declared.typed.TypedArm.{TypedArm}
 use Rattle.xp_analyse.specs.Built.{first_of}
 use Rattle.xp_analyse.specs.Built as built
 use Rattle.xp_analyse.specs.Expressions.{begun, gathered, resolved}
@@ -84,10 +81,13 @@ unless_unready true expressions trees = option_map_or (refused code.NoBody) (fir
 
 -- ---- the whole
 
+abbrev pub types_of : List Term → List TypeNo
+types_of trees = map (λ t. (type_of t).no) trees
+
 -- one arm, which goes over the rows
 abbrev pub typed_of : List Use → List Term → Typed
 typed_of uses trees = record {
-  types = map (λ t. (type_of t).no) trees;
+  types = types_of trees;
   arms = record { trees = trees; over_rows = true } ∷ [];
   uses = uses;
 }
@@ -107,11 +107,11 @@ analysed_all scene evaluated expressions =
 -- a statement with a part that isn't built isn't built
 abbrev pub if_built : Scene → Bool → List Ast → Result Typed Refusal
 if_built scene evaluated expressions =
-    cond (list_all built.is_built expressions) (analysed_all scene evaluated expressions) (refused code.NotBuilt scene.start)
+    cond (built.are_built expressions) (analysed_all scene evaluated expressions) (refused code.NotBuilt scene.start)
 
 abbrev pub scene_of : Contents → List DomainCheck → List HeaderColumn → Statement → Scene
 scene_of c checks columns s = record { c = c; checks = checks; columns = columns; start = place_of s }
 
-pub analysed : Contents → List DomainCheck → List HeaderColumn → Statement → Result Typed Refusal
+unfoldable pub analysed : Contents → List DomainCheck → List HeaderColumn → Statement → Result Typed Refusal
 analysed c checks columns s =
     option_map_or (if_built (scene_of c checks columns s) (is_evaluated s)) (expressions_of s) (refused code.NotBuilt (place_of s))

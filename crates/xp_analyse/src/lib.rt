@@ -3,9 +3,15 @@
 //! what each form means over operands that are resolved. It reads no script and evaluates nothing.
 #![tactic(auto)]
 
+mod built;
+mod casts;
+mod expressions;
+mod operands;
+mod ready;
+mod settle;
 mod statement;
 mod typed;
 
 pub use statement::analyse;
-pub use typed::{Typed, TypeNos, TypedArm, TypedArms};
+pub use typed::{TypeNos, Typed, TypedArm, TypedArms};
 pub use xp_resolve::{Refusal, Use, Uses};

@@ -1,0 +1,5 @@
+pub mod Gathering
+pub mod Settling
+pub mod Readying
+pub mod Forms
+pub mod Analysing
