@@ -1,6 +1,7 @@
-//! `xp_cli run CATALOG SCRIPT`: types and evaluates the statements of a script over a catalogue. It
-//! hands the words, the files and standard output to `xp_run`, and writes the line of an ending
-//! other than `Done` to standard error; it decides nothing else.
+//! `xp_cli run CATALOG SCRIPT [ROWS]`: types and evaluates the statements of a script over a
+//! catalogue, and over rows where a file of them is named. It hands the words, the files and standard
+//! output to `xp_run`, and writes the line of an ending other than `Done` to standard error; it
+//! decides nothing else.
 #![tactic(auto)]
 
 use std::alloc::Global;

@@ -5,18 +5,19 @@ use Rattle.xp_base.specs.Outside.{Files}
 use Rattle.xp_base.proofs.Progress.{GrowsWithin-none}
 use Rattle.xp_run.specs.Causes.{Refuses}
 use Rattle.xp_run.specs.Inputs.{Names, Texts, inputs_in, inputs_of, texts_in}
-use Rattle.xp_run.specs.Run.{Leaves, Reports, is_fine_run, output, read_by}
+use Rattle.xp_run.specs.Run.{Leaves, Reports, is_fine_run, output}
 use Rattle.xp_run.specs.Status.{status_of}
 use Rattle.xp_run.specs.inner.Reading.{ReadsTexts, Says}
 use Rattle.xp_run.specs.declared.ending.Exit.{Exit}
 use Rattle.xp_run.specs.declared.ending.Ending.{Ending}
-use Rattle.xp_run.specs.declared.ending.Ending.TheVariants.{Done, BadWords, BadCatalog, TooLong, ReadFault, WriteFault, Memory}
+use Rattle.xp_run.specs.declared.ending.Ending.TheVariants.{Done, BadWords, BadCatalog, BadRows, TooLong, ReadFault, WriteFault, Memory}
 use Rattle.xp_run.specs.declared.inputs.Inputs.{Inputs}
 
 Leaves-unread : {T : Type 0} (held : Option Files) (said : Files → Result T Ending) (rose : Type 0) (old : Option (List ℕ)) (read : Result Inputs Ending) (end : Ending) → Refuses held said rose end → Says read (Err end) → Leaves old old read end
 Leaves-unread held said rose old read (Done counted) r s = absurd r
 Leaves-unread held said rose old read BadWords r s = absurd r
 Leaves-unread held said rose old read (BadCatalog line why) r s = record { fault = s; unwritten = refl }
+Leaves-unread held said rose old read (BadRows fault) r s = record { fault = s; unwritten = refl }
 Leaves-unread held said rose old read (TooLong bytes) r s = record { fault = s; unwritten = refl }
 Leaves-unread held said rose old read ReadFault r s = refl
 Leaves-unread held said rose old read WriteFault r s = absurd r
@@ -26,6 +27,7 @@ status_of-unread : {T : Type 0} (held : Option Files) (said : Files → Result T
 status_of-unread held said rose fine (Done counted) r = absurd r
 status_of-unread held said rose fine BadWords r = refl
 status_of-unread held said rose fine (BadCatalog line why) r = refl
+status_of-unread held said rose fine (BadRows fault) r = refl
 status_of-unread held said rose fine (TooLong bytes) r = refl
 status_of-unread held said rose fine ReadFault r = refl
 status_of-unread held said rose fine WriteFault r = absurd r
@@ -36,12 +38,12 @@ pub Reports-unread : (held : Option Files) (names : Names) (rose : Type 0) (old 
 Reports-unread held names rose old new end exit t r e s n = record {
   texts = t.texts;
   told = t.told;
-  leaves = rw (e, n) (Leaves-unread held (λ files. inputs_in files names) rose old (inputs_of t.texts) end r t.says);
-  status = s ∙ rw e (status_of-unread held (λ files. inputs_in files names) rose (is_fine_run (inputs_of t.texts)) end r);
+  leaves = rw (e, n) (Leaves-unread held (λ files. inputs_in files names) rose old (inputs_of names t.texts) end r t.says);
+  status = s ∙ rw e (status_of-unread held (λ files. inputs_in files names) rose (is_fine_run (inputs_of names t.texts)) end r);
 }
 
 no_texts : Texts
-no_texts = record { catalog = None; script = None }
+no_texts = record { catalog = None; script = None; rows = None }
 
 no_names : (held : Option Files) → IfSome held (λ files. IfSome {T = Names} None (λ n. no_texts ≡ texts_in files n))
 no_names None = tt

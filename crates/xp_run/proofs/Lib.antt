@@ -1,10 +1,12 @@
+pub mod Checks
+pub mod Columns
 pub mod Endings
-pub mod Expressions
 pub mod LastLines
-pub mod Levels
+pub mod Names
+pub mod OutputRows
+pub mod Plain
 pub mod Reading
 pub mod Reported
 pub mod Steps
 pub mod Texts
 pub mod Written
-pub mod Checks

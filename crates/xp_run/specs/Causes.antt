@@ -1,9 +1,9 @@
 -- Why a run ends as it does.
-use Rattle.std.specs.Prelude.{◌≡◌, ℕ, Option, Some, None, IfSome, MatchOption, Result, Ok, Err, ◌⊎◌}
+use Rattle.std.specs.Prelude.{◌≡◌, Option, Some, None, IfSome, MatchOption, Result, Ok, Err, ◌⊎◌}
 use Rattle.xp_base.specs.Outside.{Files}
 use Rattle.xp_run.specs.Inputs.{Names, inputs_in}
 use Rattle.xp_run.specs.declared.ending.Ending.{Ending}
-use Rattle.xp_run.specs.declared.ending.Ending.TheVariants.{Done, BadWords, BadCatalog, TooLong, ReadFault, WriteFault, Memory}
+use Rattle.xp_run.specs.declared.ending.Ending.TheVariants.{Done, BadWords, BadCatalog, BadRows, TooLong, ReadFault, WriteFault, Memory}
 use Rattle.xp_run.specs.declared.inputs.Inputs.{Inputs}
 
 -- this is told of the texts
@@ -15,6 +15,7 @@ Told (Some files) said end = said files ≡ Err end
 abbrev pub Refuses : {T : Type 0} → Option Files → (Files → Result T Ending) → Type 0 → Ending → Type 0
 Refuses held said rose ReadFault = rose ⊎ Told held said ReadFault
 Refuses held said rose (BadCatalog line why) = IfSome held (λ files. said files ≡ Err (BadCatalog line why))
+Refuses held said rose (BadRows fault) = IfSome held (λ files. said files ≡ Err (BadRows fault))
 Refuses held said rose (TooLong read) = IfSome held (λ files. said files ≡ Err (TooLong read))
 Refuses held said rose Memory = Unit {0}
 Refuses held said rose (Done steps) = ⊥
@@ -31,6 +32,7 @@ NamedCause held names shelf sink (Done steps) = AreInOrder held names
 NamedCause held names shelf sink WriteFault = AreInOrder held names × sink
 NamedCause held names shelf sink BadWords = ⊥
 NamedCause held names shelf sink (BadCatalog line why) = Refuses held (λ files. inputs_in files names) shelf (BadCatalog line why)
+NamedCause held names shelf sink (BadRows fault) = Refuses held (λ files. inputs_in files names) shelf (BadRows fault)
 NamedCause held names shelf sink (TooLong read) = Refuses held (λ files. inputs_in files names) shelf (TooLong read)
 NamedCause held names shelf sink ReadFault = Refuses held (λ files. inputs_in files names) shelf ReadFault
 NamedCause held names shelf sink Memory = Unit {0}

@@ -1,15 +1,12 @@
-pub mod Analysis
 pub mod Answer
 pub mod Blocks
 pub mod Causes
-pub mod Evaluation
+pub mod Fields
 pub mod Inputs
-pub mod Integers
 pub mod LastLine
 pub mod Report
-pub mod Resolve
 pub mod Run
 pub mod Script
 pub mod Status
-pub mod Values
+pub mod Uses
 pub mod inner

@@ -1,18 +1,19 @@
--- The report on a script over a catalogue: a block for each statement.
+-- The report on a script over a catalogue and rows: a block for each statement.
 use Rattle.std.specs.Prelude.{ℕ, ◌+◌, List, [], ◌∷◌, Bool, flat_map, sum_by}
 use Rattle.std.specs.List.{concat, list_all}
 use Rattle.xp_catalog.specs.Contents.{Contents}
 use Rattle.xp_run.specs.Answer.{Answer}
 use Rattle.xp_run.specs.Blocks.{Block, block_of}
 use Rattle.xp_run.specs.Script.{answers}
+use Rattle.xp_run.specs.declared.inputs.Inputs.{Inputs}
 
 -- the blocks of statements that answer so, numbered from k
 abbrev pub blocks_from : Contents → ℕ → List Answer → List Block
 blocks_from c k [] = []
 blocks_from c k (answer ∷ later) = block_of c k answer ∷ blocks_from c (k + 1) later
 
-abbrev pub report : Contents → List ℕ → List Block
-report c script = blocks_from c 1 (answers c script)
+abbrev pub report : Inputs → List Block
+report inputs = blocks_from inputs.catalog 1 (answers inputs)
 
 -- what is written
 abbrev pub text_of : List Block → List ℕ

@@ -7,27 +7,27 @@ use Rattle.xp_run.specs.Report.{all_ok, report, steps_in, text_of}
 use Rattle.xp_run.specs.Status.{status_of}
 use Rattle.xp_run.specs.declared.ending.Exit.{Exit}
 use Rattle.xp_run.specs.declared.ending.Ending.{Ending}
-use Rattle.xp_run.specs.declared.ending.Ending.TheVariants.{Done, BadWords, BadCatalog, TooLong, ReadFault, WriteFault, Memory}
+use Rattle.xp_run.specs.declared.ending.Ending.TheVariants.{Done, BadWords, BadCatalog, BadRows, TooLong, ReadFault, WriteFault, Memory}
 use Rattle.xp_run.specs.declared.inputs.Inputs.{Inputs}
 
--- what the words say of two texts: the catalogue and the script, or the ending of the first fault
+-- what the words say of the texts: the catalogue, the script and the rows, or the ending of the first fault
 abbrev pub read_by : Option Names → Texts → Result Inputs Ending
 read_by None texts = Err BadWords
-read_by (Some names) texts = inputs_of texts
+read_by (Some names) texts = inputs_of names texts
 
 -- what is written of texts that are in order, and of no others
 abbrev pub output : Result Inputs Ending → List ℕ
-output (Ok inputs) = text_of (report inputs.catalog inputs.script)
+output (Ok inputs) = text_of (report inputs)
 output (Err fault) = []
 
 -- every block's last line says `ok`
 abbrev pub is_fine_run : Result Inputs Ending → Bool
-is_fine_run (Ok inputs) = all_ok (report inputs.catalog inputs.script)
+is_fine_run (Ok inputs) = all_ok (report inputs)
 is_fine_run (Err fault) = true
 
 -- how many machine steps the statements take
 abbrev pub steps : Result Inputs Ending → ℕ
-steps (Ok inputs) = steps_in (report inputs.catalog inputs.script)
+steps (Ok inputs) = steps_in (report inputs)
 steps (Err fault) = 0
 
 -- the texts are in order, and the whole output is written
@@ -53,6 +53,7 @@ Leaves old new read WriteFault = IsCutOff old new read
 Leaves old new read Memory = GrowsWithin old new (output read)
 Leaves old new read BadWords = IsRefused old new read BadWords
 Leaves old new read (BadCatalog line why) = IsRefused old new read (BadCatalog line why)
+Leaves old new read (BadRows fault) = IsRefused old new read (BadRows fault)
 Leaves old new read (TooLong bytes) = IsRefused old new read (TooLong bytes)
 Leaves old new read ReadFault = new ≡ old
 

@@ -1,131 +1,95 @@
-//! Analyses a statement: its refusal, or its expressions, ready to be evaluated.
-ghost use Rattle.std.specs.Prelude.{◌≡◌, Option, Some, IfOk};
-ghost use Rattle.xp_run.specs.Analysis as spec;
-ghost use Rattle.xp_base.specs.FromLeft.{each};
-ghost use Rattle.xp_run.specs.Resolve.{resolved};
+//! Analyses a statement: from its tokens to what it answers.
+ghost use Rattle.std.specs.Prelude.{◌≡◌, IfOk, Some, option_map, true};
+ghost use Rattle.xp_token.specs.Lexemes.{all_placed};
+ghost use Rattle.xp_parser.specs.Parses.{ends_in_end, parsed};
+ghost use Rattle.xp_analyse.specs.Statements.{is_evaluated};
+ghost use Rattle.xp_run.specs.Script.{parsed_answer, statement_answer, tokens_answer};
+ghost use Rattle.xp_run.specs.inner.Analyses.{AreReadied, IsReady, answer_of};
+ghost use Rattle.xp_run.specs.inner.Usable.{AreUsable};
 
-use crate::resolve::{Refusal, Typed, resolve};
-use crate::value::Value;
-use sqlite_items::Items;
-use std::alloc::{AllocError, Global};
-use xp_base::{Code, EvalError, Span, TypeNo};
-use xp_catalog::Catalog;
-use xp_grammar::{Item, Statement};
+use crate::inputs::Inputs;
+use std::alloc::Global;
+use xp_analyse::{Refusal, Typed, analyse};
+use xp_base::{Code, Memory};
+use xp_grammar::Statement;
+use xp_parser::{ParseFault, parse};
+use xp_token::Tokens;
+use xp_tree::Checks;
 
-/// An expression all of whose calls have bodies: its type, its value or error, and the error that
-/// it raises before any row is looked at.
-#[derive(Clone, Copy, Debug, PartialEq, Eq)]
-pub struct Evaluable {
-    pub ty: TypeNo,
-    pub outcome: Result<Value, EvalError>,
-    pub early: Option<EvalError>,
+/// What a statement answers, before it is evaluated.
+#[derive(Drop)]
+pub enum Analysis {
+    /// Why it is refused, and the byte of the script where.
+    Refused { code: Code, at: u64 },
+    Described(Typed),
+    /// Its trees are to be evaluated.
+    Evaluated(Typed),
 }
 
-/// A statement's expressions, or its refusal.
-pub type Analysis = Result<Items<Evaluable>, Refusal>;
-
-fn not_built(at: Span) -> Refusal
-    ensures { result ≡ spec.not_built at }
+/// Whether the trees of the statement are to be evaluated.
+fn is_evaluated(statement: &Statement) -> bool
+    ensures { result ≡ is_evaluated statement.now }
 {
-    Refusal {
-        code: Code::NotBuilt,
-        at: u64::from(at.start),
-    }
+    !matches!(statement, Statement::Describe { .. })
 }
 
-/// Resolves an expression of SELECT. There is none where it isn't built, as with a label.
-fn resolve_item(catalog: &Catalog, item: &Item) -> Option<Result<Typed, Refusal>>
-    ensures { result ≡ spec.unlabelled item.now.label (resolved catalog.now item.now.expr) }
-{
-    match &item.label {
-        Some(_) => None,
-        None => resolve(catalog, &item.expr),
-    }
-}
-
-/// The expressions of the SELECT at `at` from left to right, or the first refusal. Where one of them
-/// isn't built, the statement isn't.
-#[tactic(auto, using(xp_base::proofs::Lists::drop_one, xp_base::proofs::Lists::drop_none, crate::proofs::Expressions::held_nothing, crate::proofs::Expressions::held_typed, crate::proofs::Expressions::held_refusal))]
-fn resolve_items(
+/// Analyses a statement over a catalogue without checks of domains.
+fn analyse_statement(
     alloc: Global,
-    catalog: &Catalog,
-    at: Span,
-    items: &[Item],
-) -> Result<Result<Items<Typed>, Refusal>, AllocError>
-    ensures { IfOk result (λ typed. typed ≡ spec.built at (spec.items_typed catalog.now items.now)) }
-{
-    let mut typed = Items::new(alloc);
-    let mut refusal = None;
-    for item in items {
-        match resolve_item(catalog, item) {
-            None => return Ok(Err(not_built(at))),
-            Some(Ok(one)) => typed.push(one)?,
-            Some(Err(other)) => refusal = refusal.or(Some(other)),
-        }
-    }
-    Ok(match refusal {
-        Some(refusal) => Err(refusal),
-        None => Ok(typed),
-    })
-}
-
-/// The expression, unless a call in it has no body.
-fn with_body(typed: &Typed) -> Result<Evaluable, Refusal>
-    ensures { result ≡ spec.with_body typed.now }
-{
-    match typed.evaluation.outcome {
-        Some(outcome) => Ok(Evaluable {
-            ty: typed.ty,
-            outcome,
-            early: typed.evaluation.early,
-        }),
-        None => Err(Refusal {
-            code: Code::NoBody,
-            at: u64::from(typed.start),
-        }),
-    }
-}
-
-#[tactic(auto, using(xp_base::proofs::Lists::drop_one, xp_base::proofs::Lists::drop_none, crate::proofs::Expressions::with_nothing, crate::proofs::Expressions::with_one))]
-fn with_bodies(alloc: Global, typed: &[Typed]) -> Result<Analysis, AllocError>
-    ensures { IfOk result (λ all. all ≡ each spec.with_body typed.now) }
-{
-    let mut all = Items::new(alloc);
-    for one in typed {
-        match with_body(one) {
-            Ok(one) => all.push(one)?,
-            Err(refusal) => return Ok(Err(refusal)),
-        }
-    }
-    Ok(Ok(all))
-}
-
-/// Analyses a statement.
-pub fn analyse(
-    alloc: Global,
-    catalog: &Catalog,
+    inputs: &Inputs,
     statement: &Statement,
-) -> Result<Analysis, AllocError>
-    ensures { IfOk result (λ analysis. analysis ≡ spec.analysed catalog.now statement.now) }
+) -> Result<Analysis, Memory>
+    requires { AreUsable inputs.now }
+    ensures value { IfOk result (λ analysis. Some (answer_of inputs.now.rows analysis) ≡ statement_answer inputs.now statement.now) }
+    ensures ready { IfOk result IsReady }
 {
-    let at = match statement {
-        Statement::Select { at, items } => {
-            let typed = resolve_items(alloc, catalog, *at, items.as_slice())?;
-            return match typed {
-                Ok(typed) => with_bodies(alloc, typed.as_slice()),
-                Err(refusal) => Ok(Err(refusal)),
-            };
+    let checks = Checks::new(alloc);
+    match analyse(alloc, &inputs.catalog, &checks, &inputs.header, statement) {
+        Ok(typed) if is_evaluated(statement) => Ok(Analysis::Evaluated(typed)),
+        Ok(typed) => Ok(Analysis::Described(typed)),
+        Err(Refusal::At { code, at }) => Ok(Analysis::Refused { code, at }),
+        Err(Refusal::Memory) => Err(Memory),
+    }
+}
+
+pub fn refused(code: Code, at: u64) -> Analysis
+    ensures { result ≡ Analysis.Refused code at }
+{
+    Analysis::Refused { code, at }
+}
+
+/// Analyses what the tokens of a statement say.
+fn analyse_tokens(alloc: Global, inputs: &Inputs, tokens: &Tokens) -> Result<Analysis, Memory>
+    requires usable { AreUsable inputs.now }
+    requires ends { ends_in_end tokens.now ≡ true }
+    ensures value { IfOk result (λ analysis. Some (answer_of inputs.now.rows analysis) ≡ parsed_answer inputs.now (parsed tokens.now)) }
+    ensures ready { IfOk result IsReady }
+{
+    match parse(alloc, tokens) {
+        Ok(statement) => {
+            let analysis = analyse_statement(alloc, inputs, &statement);
+            drop(statement);
+            analysis
         }
-        Statement::UnionAll { at, arms: _ } => *at,
-        Statement::Values { at, lists: _ } => *at,
-        Statement::Store {
-            at,
-            target: _,
-            source: _,
-        } => *at,
-        Statement::Describe { at, exprs: _ } => *at,
-        Statement::Explain { at, expr: _ } => *at,
-        Statement::ExplainAnalyze { at, expr: _ } => *at,
-    };
-    Ok(Err(not_built(at)))
+        Err(ParseFault::Syntax { at }) => Ok(refused(Code::Syntax, u64::from(at))),
+        Err(ParseFault::TooDeep { at }) => Ok(refused(Code::TooDeep, u64::from(at))),
+        Err(ParseFault::Memory) => Err(Memory),
+    }
+}
+
+/// Analyses what the tokens say, if there is one before the End.
+pub fn analyse_some(
+    alloc: Global,
+    inputs: &Inputs,
+    tokens: &Tokens,
+) -> Result<Option<Analysis>, Memory>
+    requires usable { AreUsable inputs.now }
+    requires ends { ends_in_end tokens.now ≡ true }
+    ensures value { IfOk result (λ analysis. option_map (answer_of inputs.now.rows) analysis ≡ tokens_answer inputs.now (all_placed tokens.now)) }
+    ensures ready { IfOk result AreReadied }
+{
+    if tokens.len() == 1 {
+        return Ok(None);
+    }
+    Ok(Some(analyse_tokens(alloc, inputs, tokens)?))
 }

@@ -4,6 +4,7 @@ ghost use Rattle.xp_run.specs.Status.{status_of};
 
 use std::fmt;
 use xp_catalog::Why;
+use xp_rows::RowsFault;
 
 /// How a run ended. It shows as the line that the program writes of it.
 #[derive(Clone, Copy, Debug, PartialEq, Eq)]
@@ -14,6 +15,8 @@ pub enum Ending {
     BadWords,
     /// The record of that line, counted from 1, is refused.
     BadCatalog { line: u32, why: Why },
+    /// The rows file is refused.
+    BadRows { fault: RowsFault },
     /// A text is longer than its limit; `read` is the limit and one.
     TooLong { read: u64 },
     /// The shelf failed, or has no text of that name.
@@ -21,6 +24,24 @@ pub enum Ending {
     /// The sink failed.
     WriteFault,
     Memory,
+}
+
+/// Writes the fault of a rows file. Those that are none of the text end no run so.
+fn write_fault<W: fmt::Write>(fault: RowsFault, f: &mut fmt::Formatter<W>) -> fmt::Result {
+    match fault {
+        RowsFault::Header { column, why } => {
+            let why = why.word();
+            write!(f, "header column {column} {why}")
+        }
+        RowsFault::Width { row } => write!(f, "width row {row}"),
+        RowsFault::Field { row, column, error } => {
+            let word = error.code().word();
+            write!(f, "field row {row} column {column} {word}")
+        }
+        RowsFault::TooMany { row } => write!(f, "TooMany row {row}"),
+        RowsFault::Unread => f.write_str("Unread"),
+        RowsFault::Memory => f.write_str("Memory"),
+    }
 }
 
 impl fmt::Display for Ending {
@@ -31,6 +52,10 @@ impl fmt::Display for Ending {
             Ending::BadCatalog { line, why } => {
                 let why = why.word();
                 write!(f, "BadCatalog line {line} {why}")
+            }
+            Ending::BadRows { fault } => {
+                f.write_str("BadRows ")?;
+                write_fault(*fault, f)
             }
             Ending::TooLong { read } => write!(f, "TooLong {read}"),
             Ending::ReadFault => f.write_str("ReadFault"),
@@ -54,7 +79,10 @@ pub fn exit_of(end: Ending, fine: bool) -> Exit
 {
     let status = match end {
         Ending::Done { .. } => { if fine { 0 } else { 1 } }
-        Ending::BadWords | Ending::BadCatalog { .. } | Ending::TooLong { .. } => 2,
+        Ending::BadWords
+        | Ending::BadCatalog { .. }
+        | Ending::BadRows { .. }
+        | Ending::TooLong { .. } => 2,
         Ending::ReadFault => 3,
         Ending::WriteFault => 4,
         Ending::Memory => 5,

@@ -1,21 +1,29 @@
 //! Loads the texts of a run.
-ghost use Rattle.std.specs.Prelude.{◌≡◌, ◌≤◌, IfOk, length};
+ghost use Rattle.std.specs.Prelude.{◌≡◌, ◌≤◌, IfErr, IfOk, Some, length, option_map};
 ghost use Rattle.xp_base.specs.Growth.{Rose};
 ghost use Rattle.xp_base.specs.Outside.{text_at};
-ghost use Rattle.xp_run.specs.Inputs.{catalog_of, first_check, inputs_in, unless_check, within};
-ghost use Rattle.xp_run.specs.inner.Reading.{Reads, ReadsText, ReadsTexts};
+ghost use Rattle.xp_base.specs.declared.limits.TheConstants.{COLUMN_LIMIT};
+ghost use Rattle.xp_bodies.specs.Fits.{IsFitted};
+ghost use Rattle.xp_named.specs.Columns.{AreColumns};
+ghost use Rattle.xp_run.specs.Inputs.{catalog_of, first_check, inputs_in, no_columns, table_of, unless_check, within};
+ghost use Rattle.xp_run.specs.inner.Usable.{AreUsable};
+ghost use Rattle.xp_run.specs.inner.Reading.{Reads, ReadsTable, ReadsText, ReadsTexts, table_in};
 
 use crate::ending::Ending;
+use sqlite_items::Items;
 use std::alloc::Global;
-use xp_base::{Byts, CATALOG_LIMIT, LoadFault, RowNo, SCRIPT_LIMIT, Shelf};
-use xp_catalog::{CatFault, Catalog, Why};
+use xp_base::{Byts, CATALOG_LIMIT, LoadFault, ROWS_LIMIT, RowNo, SCRIPT_LIMIT, Shelf, Txt};
+use xp_catalog::{CatFault, Catalog, Header, Why};
 use xp_loader::load;
+use xp_rows::{Rows, RowsFault, load_rows};
 
 /// What a run works on.
 #[derive(Drop)]
 pub struct Inputs {
     pub catalog: Catalog,
     pub script: Byts,
+    pub header: Header,
+    pub rows: Rows,
 }
 
 #[tactic(auto, using(crate::proofs::Texts::reads_whole, crate::proofs::Texts::reads_long, crate::proofs::Texts::reads_failed, crate::proofs::Texts::reads_memory))]
@@ -64,6 +72,7 @@ fn unless_check(catalog: Catalog) -> Result<Catalog, Ending>
 fn load_catalog<F: Shelf>(alloc: Global, name: &str, shelf: &mut F) -> Result<Catalog, Ending>
     ensures answer { Reads (F.held shelf.old) (λ files. catalog_of (text_at files name.now)) (Rose (F.faults shelf.old) (F.faults shelf.new)) result }
     ensures text { ReadsText (F.held shelf.old) name.now catalog_of result }
+    ensures fitted { IfOk result IsFitted }
     ensures same { F.held shelf.new ≡ F.held shelf.old }
     ensures rises { F.faults shelf.old ≤ F.faults shelf.new }
 {
@@ -82,16 +91,76 @@ fn load_catalog<F: Shelf>(alloc: Global, name: &str, shelf: &mut F) -> Result<Ca
     }
 }
 
-/// Loads the catalogue, and then the script.
-#[tactic(auto, using(crate::proofs::Texts::texts_stop, crate::proofs::Texts::texts_script, crate::proofs::Texts::texts_whole))]
+/// The columns and the one row of a run without a rows file.
+fn no_columns(alloc: Global) -> Result<(Header, Rows), Ending>
+    ensures value { IfOk result (λ table. table ≡ no_columns) }
+    ensures memory { IfErr result (λ end. end ≡ Ending.Memory) }
+{
+    let mut rows = Items::new(alloc);
+    match rows.push(Items::new(alloc)) {
+        Ok(()) => Ok((Header::new(alloc), rows)),
+        Err(_) => Err(Ending::Memory),
+    }
+}
+
+#[tactic(auto, using(crate::proofs::Columns::header_few, crate::proofs::Texts::text_stops, crate::proofs::Texts::text_then, crate::proofs::Texts::reads_memory))]
+fn load_named_rows<F: Shelf>(
+    alloc: Global,
+    catalog: &Catalog,
+    name: &str,
+    shelf: &mut F,
+) -> Result<(Header, Rows), Ending>
+    ensures answer { Reads (F.held shelf.old) (λ files. table_of catalog.now (Some name.now) (text_at files name.now)) (Rose (F.faults shelf.old) (F.faults shelf.new)) result }
+    ensures text { ReadsText (F.held shelf.old) name.now (table_of catalog.now (Some name.now)) result }
+    ensures columns { IfOk result (λ table. AreColumns catalog.now table.0) }
+    ensures few { IfOk result (λ table. length table.0 ≤ COLUMN_LIMIT) }
+    ensures same { F.held shelf.new ≡ F.held shelf.old }
+    ensures rises { F.faults shelf.old ≤ F.faults shelf.new }
+{
+    let text = match load_text(alloc, name, ROWS_LIMIT, shelf) {
+        Ok(text) => text,
+        Err(end) => return Err(end),
+    };
+    match load_rows(alloc, catalog, text.as_slice()) {
+        Ok(table) => Ok(table),
+        Err(RowsFault::Unread | RowsFault::Memory) => Err(Ending::Memory),
+        Err(fault) => Err(Ending::BadRows { fault }),
+    }
+}
+
+/// The columns and the rows, of a rows file where one is named.
+#[tactic(auto, using(crate::proofs::Texts::table_none, crate::proofs::Texts::table_memory, crate::proofs::Texts::table_some))]
+fn load_table<F: Shelf>(
+    alloc: Global,
+    catalog: &Catalog,
+    name: Option<&Txt>,
+    shelf: &mut F,
+) -> Result<(Header, Rows), Ending>
+    ensures answer { Reads (F.held shelf.old) (λ files. table_in files catalog.now (option_map (λ name. name.now) name.entry)) (Rose (F.faults shelf.old) (F.faults shelf.new)) result }
+    ensures text { ReadsTable (F.held shelf.old) catalog.now (option_map (λ name. name.now) name.entry) result }
+    ensures columns { IfOk result (λ table. AreColumns catalog.now table.0) }
+    ensures few { IfOk result (λ table. length table.0 ≤ COLUMN_LIMIT) }
+    ensures same { F.held shelf.new ≡ F.held shelf.old }
+    ensures rises { F.faults shelf.old ≤ F.faults shelf.new }
+{
+    match name {
+        None => no_columns(alloc),
+        Some(name) => load_named_rows(alloc, catalog, name.as_str(), shelf),
+    }
+}
+
+/// Loads the catalogue, then the script, and then the rows.
+#[tactic(auto, using(crate::proofs::Texts::texts_stop, crate::proofs::Texts::texts_script, crate::proofs::Texts::texts_table, crate::proofs::Texts::texts_whole))]
 pub fn load_inputs<F: Shelf>(
     alloc: Global,
     catalog: &str,
     script: &str,
+    rows: Option<&Txt>,
     shelf: &mut F,
 ) -> Result<Inputs, Ending>
-    ensures answer { Reads (F.held shelf.old) (λ files. inputs_in files (record { catalog = catalog.now; script = script.now })) (Rose (F.faults shelf.old) (F.faults shelf.new)) result }
-    ensures texts { ReadsTexts (F.held shelf.old) (record { catalog = catalog.now; script = script.now }) result }
+    ensures answer { Reads (F.held shelf.old) (λ files. inputs_in files (record { catalog = catalog.now; script = script.now; rows = option_map (λ name. name.now) rows.entry })) (Rose (F.faults shelf.old) (F.faults shelf.new)) result }
+    ensures texts { ReadsTexts (F.held shelf.old) (record { catalog = catalog.now; script = script.now; rows = option_map (λ name. name.now) rows.entry }) result }
+    ensures usable { IfOk result AreUsable }
     ensures short { IfOk result (λ inputs. length inputs.script ≤ SCRIPT_LIMIT) }
     ensures same { F.held shelf.new ≡ F.held shelf.old }
     ensures rises { F.faults shelf.old ≤ F.faults shelf.new }
@@ -100,8 +169,17 @@ pub fn load_inputs<F: Shelf>(
         Ok(catalog) => catalog,
         Err(end) => return Err(end),
     };
-    match load_text(alloc, script, SCRIPT_LIMIT, shelf) {
-        Ok(script) => Ok(Inputs { catalog, script }),
+    let script = match load_text(alloc, script, SCRIPT_LIMIT, shelf) {
+        Ok(script) => script,
+        Err(end) => return Err(end),
+    };
+    match load_table(alloc, &catalog, rows, shelf) {
+        Ok((header, rows)) => Ok(Inputs {
+            catalog,
+            script,
+            header,
+            rows,
+        }),
         Err(end) => Err(end),
     }
 }

@@ -1,21 +1,22 @@
-//! The run: reads a catalogue and a script off a shelf, and puts the report on the script into a
-//! sink. It stands on the crates that load catalogues and read statements, and on the outside as
-//! `xp_base` has it. It opens no file, and writes nothing of texts that are not in order.
+//! The run: reads a catalogue, a script and rows off a shelf, and puts the report on the script into
+//! a sink. It stands on the crates that load catalogues and rows, that read and analyse statements and
+//! that evaluate them, and on the outside as `xp_base` has it. It opens no file, and writes nothing of
+//! texts that are not in order.
 #![tactic(auto)]
 
 mod analysis;
+mod arms;
+mod block;
 mod ending;
-mod evaluation;
+mod fields;
 mod inputs;
-mod integers;
 mod laws;
 mod lines;
+mod printer;
 mod program;
 mod report;
-mod resolve;
-mod rows;
 mod script;
-mod value;
+mod uses;
 mod words;
 mod worked;
 mod writing;

@@ -1,5 +1,5 @@
 //! The run.
-ghost use Rattle.std.specs.Prelude.{◌≡◌, ◌≤◌, Some};
+ghost use Rattle.std.specs.Prelude.{◌≡◌, ◌≤◌, Some, option_map};
 ghost use Rattle.xp_base.specs.Growth.{Rose};
 ghost use Rattle.xp_run.specs.Inputs.{named};
 ghost use Rattle.xp_run.specs.Causes.{HasCause, IsDoneOrMemory, IsReady};
@@ -17,21 +17,22 @@ fn run_named<F: Shelf, K: Sink>(
     alloc: Global,
     catalog: &str,
     script: &str,
+    rows: Option<&Txt>,
     shelf: &mut F,
     out: &mut K,
 ) -> Exit
-    ensures report { Reports (F.held shelf.old) (Some (record { catalog = catalog.now; script = script.now })) (K.contents out.old) (K.contents out.new) result }
-    ensures cause { HasCause (F.held shelf.old) (Some (record { catalog = catalog.now; script = script.now })) (Rose (F.faults shelf.old) (F.faults shelf.new)) (Rose (K.faults out.old) (K.faults out.new)) result.end }
+    ensures report { Reports (F.held shelf.old) (Some (record { catalog = catalog.now; script = script.now; rows = option_map (λ name. name.now) rows.entry })) (K.contents out.old) (K.contents out.new) result }
+    ensures cause { HasCause (F.held shelf.old) (Some (record { catalog = catalog.now; script = script.now; rows = option_map (λ name. name.now) rows.entry })) (Rose (F.faults shelf.old) (F.faults shelf.new)) (Rose (K.faults out.old) (K.faults out.new)) result.end }
     ensures memory { result.end ≡ Ending.Memory → K.faults out.new ≡ K.faults out.old }
     ensures shelf { F.faults shelf.old ≤ F.faults shelf.new }
     ensures sink { K.faults out.old ≤ K.faults out.new }
     ensures same { F.held shelf.new ≡ F.held shelf.old }
 {
-    let inputs = match load_inputs(alloc, catalog, script, shelf) {
+    let inputs = match load_inputs(alloc, catalog, script, rows, shelf) {
         Ok(inputs) => inputs,
         Err(end) => return exit_of(end, true),
     };
-    match write_report(alloc, &inputs.catalog, inputs.script.as_slice(), out) {
+    match write_report(alloc, &inputs, out) {
         Ok(fine) => exit_of(Ending::Done { steps: 0 }, fine),
         Err(WriteError::Failed) => exit_of(Ending::WriteFault, true),
         Err(WriteError::Memory) => exit_of(Ending::Memory, true),
@@ -63,6 +64,7 @@ pub fn run<F: Shelf, K: Sink>(alloc: Global, words: &[Txt], shelf: &mut F, out: 
             alloc,
             names.catalog.as_str(),
             names.script.as_str(),
+            names.rows,
             shelf,
             out,
         ),

@@ -1,21 +1,19 @@
-//! Writes the report on a script, each line by one put as it arises.
-ghost use Rattle.std.specs.Prelude.{◌≡◌, ◌-◌, ◌^◌, ◌<◌, ◌≤◌, ◌&&◌, ◌∷◌, [], IfOk, OnOk, Ok, length, option_map};
-ghost use Rattle.std.specs.List.{concat};
-ghost use Rattle.xp_run.specs.Answer.{answer_of, is_fine, rows_of};
-ghost use Rattle.xp_run.specs.Blocks.{lines_of, outcome_lines, row_lines};
+//! Writes the report on a script, a block for each statement.
+ghost use Rattle.std.specs.Prelude.{◌≡◌, ◌-◌, ◌^◌, ◌<◌, ◌≤◌, ◌&&◌, IfOk, OnOk, length, option_map};
 ghost use Rattle.xp_run.specs.Report.{all_ok, report, steps_in, text_of};
+ghost use Rattle.xp_run.specs.inner.Analyses.{AreReadied, answer_of};
 ghost use Rattle.xp_run.specs.inner.Turns.{is_fine_turn, number_after, text_after};
+ghost use Rattle.xp_run.specs.inner.Usable.{AreUsable};
 ghost use Rattle.xp_run.specs.inner.Writing.{Writes};
 
-use crate::analysis::{Analysis, Evaluable};
-use crate::lines;
-use crate::rows::{first_early, row_of};
+use crate::analysis::Analysis;
+use crate::block::write_block;
+use crate::inputs::Inputs;
+use crate::printer::RowPrinter;
 use crate::script::{NextStatement, next_statement};
-use crate::value::Value;
 use crate::writing::WriteError;
 use std::alloc::Global;
 use xp_base::Sink;
-use xp_catalog::Catalog;
 
 /// The number of the next statement, and whether all blocks so far end in `ok`.
 #[derive(Clone, Copy, Debug)]
@@ -24,102 +22,26 @@ struct Tally {
     all_ok: bool,
 }
 
-/// Puts a line.
-fn put_line<K: Sink>(line: &[u8], out: &mut K) -> Result<(), WriteError>
-    ensures wrote { Writes (K.contents out.old) (K.contents out.new) line.now (K.faults out.old) (K.faults out.new) result }
-    ensures rises { K.faults out.old ≤ K.faults out.new }
-{
-    out.put(line)?;
-    Ok(())
-}
-
-/// Writes the only row of block `k`, and the line behind it.
-#[tactic(auto, using(crate::proofs::Written::writes_nothing, crate::proofs::Written::writes_then, crate::proofs::Written::stops_first))]
-fn write_row<K: Sink>(
-    alloc: Global,
-    k: u64,
-    values: &[Value],
-    out: &mut K,
-) -> Result<(), WriteError>
-    ensures wrote { Writes (K.contents out.old) (K.contents out.new) (concat (row_lines k 0 (Ok values.now ∷ []))) (K.faults out.old) (K.faults out.new) result }
-    ensures rises { K.faults out.old ≤ K.faults out.new }
-{
-    put_line(lines::row(alloc, values)?.as_slice(), out)?;
-    put_line(lines::ok(alloc, k, 1)?.as_bytes(), out)
-}
-
-/// Writes the lines of block `k` behind that of the types. At `Ok`, says whether the last is `ok`.
-#[tactic(auto, using(crate::proofs::Written::writes_nothing, crate::proofs::Written::writes_then, crate::proofs::Written::stops_first))]
-fn write_outcome<K: Sink>(
-    alloc: Global,
-    k: u64,
-    expressions: &[Evaluable],
-    out: &mut K,
-) -> Result<bool, WriteError>
-    ensures wrote { Writes (K.contents out.old) (K.contents out.new) (concat (outcome_lines k (rows_of expressions.now).early (rows_of expressions.now).rows)) (K.faults out.old) (K.faults out.new) result }
-    ensures fine { IfOk result (λ fine. fine ≡ is_fine (answer_of (Ok expressions.now))) }
-    ensures rises { K.faults out.old ≤ K.faults out.new }
-{
-    if let Some(error) = first_early(expressions) {
-        put_line(lines::early(alloc, k, error.code())?.as_bytes(), out)?;
-        return Ok(false);
-    }
-    match row_of(alloc, expressions)? {
-        Ok(values) => {
-            write_row(alloc, k, values.as_slice(), out)?;
-            Ok(true)
-        }
-        Err(error) => {
-            put_line(lines::error(alloc, k, error.code(), 1)?.as_bytes(), out)?;
-            Ok(false)
-        }
-    }
-}
-
-/// Writes the block of statement `k`. At `Ok`, says whether it ends in `ok`.
-#[tactic(auto, using(crate::proofs::Written::writes_nothing, crate::proofs::Written::writes_then, crate::proofs::Written::stops_first))]
-fn write_block<K: Sink>(
-    alloc: Global,
-    catalog: &Catalog,
-    k: u64,
-    analysis: &Analysis,
-    out: &mut K,
-) -> Result<bool, WriteError>
-    ensures wrote { Writes (K.contents out.old) (K.contents out.new) (concat (lines_of catalog.now k (answer_of analysis.now))) (K.faults out.old) (K.faults out.new) result }
-    ensures fine { IfOk result (λ fine. fine ≡ is_fine (answer_of analysis.now)) }
-    ensures rises { K.faults out.old ≤ K.faults out.new }
-{
-    match analysis {
-        Ok(expressions) => {
-            let types = lines::types(alloc, catalog, k, expressions.as_slice())?;
-            put_line(types.as_bytes(), out)?;
-            write_outcome(alloc, k, expressions.as_slice(), out)
-        }
-        Err(refusal) => {
-            put_line(lines::refused(alloc, k, *refusal)?.as_bytes(), out)?;
-            Ok(false)
-        }
-    }
-}
-
 /// Writes the block of the next statement, if there is one.
 fn write_some<K: Sink>(
     alloc: Global,
-    catalog: &Catalog,
+    inputs: &Inputs,
     analysis: Option<Analysis>,
     tally: Tally,
+    printer: &mut RowPrinter,
     out: &mut K,
 ) -> Result<Tally, WriteError>
-    requires { tally.next < 2 ^ 64 - 1 }
-    ensures wrote { Writes (K.contents out.old) (K.contents out.new) (text_after catalog.now tally.next (option_map answer_of analysis)) (K.faults out.old) (K.faults out.new) result }
-    ensures next { IfOk result (λ after. after.next ≡ number_after tally.next (option_map answer_of analysis)) }
-    ensures fine { IfOk result (λ after. after.all_ok ≡ (tally.all_ok && is_fine_turn (option_map answer_of analysis))) }
+    requires ready { AreReadied analysis }
+    requires fits { tally.next < 2 ^ 64 - 1 }
+    ensures wrote { Writes (K.contents out.old) (K.contents out.new) (text_after inputs.now.catalog tally.next (option_map (answer_of inputs.now.rows) analysis)) (K.faults out.old) (K.faults out.new) result }
+    ensures next { IfOk result (λ after. after.next ≡ number_after tally.next (option_map (answer_of inputs.now.rows) analysis)) }
+    ensures fine { IfOk result (λ after. after.all_ok ≡ (tally.all_ok && is_fine_turn (option_map (answer_of inputs.now.rows) analysis))) }
     ensures rises { K.faults out.old ≤ K.faults out.new }
 {
     let Some(analysis) = analysis else {
         return Ok(tally);
     };
-    let fine = write_block(alloc, catalog, tally.next, &analysis, out)?;
+    let fine = write_block(alloc, inputs, tally.next, &analysis, printer, out)?;
     Ok(Tally {
         next: tally.next + 1,
         all_ok: tally.all_ok && fine,
@@ -130,26 +52,25 @@ fn write_some<K: Sink>(
 /// step.
 pub fn write_report<K: Sink>(
     alloc: Global,
-    catalog: &Catalog,
-    script: &[u8],
+    inputs: &Inputs,
     out: &mut K,
 ) -> Result<bool, WriteError>
-    requires { length script.now < 2 ^ 32 }
-    ensures wrote { Writes (K.contents out.old) (K.contents out.new) (text_of (report catalog.now script.now)) (K.faults out.old) (K.faults out.new) result }
-    ensures fine { IfOk result (λ fine. fine ≡ all_ok (report catalog.now script.now)) }
-    ensures steps { OnOk result (steps_in (report catalog.now script.now) ≡ 0) }
+    requires usable { AreUsable inputs.now }
+    requires fits { length inputs.now.script < 2 ^ 32 }
+    ensures wrote { Writes (K.contents out.old) (K.contents out.new) (text_of (report inputs.now)) (K.faults out.old) (K.faults out.new) result }
+    ensures fine { IfOk result (λ fine. fine ≡ all_ok (report inputs.now)) }
+    ensures steps { OnOk result (steps_in (report inputs.now) ≡ 0) }
     ensures rises { K.faults out.old ≤ K.faults out.new }
 {
+    let mut printer = RowPrinter::new(alloc);
     let mut at: u64 = 0;
     let mut tally = Tally {
         next: 1,
         all_ok: true,
     };
-    while at < script.len() as u64 {
-        let Ok(NextStatement { analysis, next }) = next_statement(alloc, catalog, script, at) else {
-            return Err(WriteError::Memory);
-        };
-        tally = write_some(alloc, catalog, analysis, tally, out)?;
+    while at < inputs.script.as_slice().len() as u64 {
+        let NextStatement { analysis, next } = next_statement(alloc, inputs, at)?;
+        tally = write_some(alloc, inputs, analysis, tally, &mut printer, out)?;
         at = next;
     }
     Ok(tally.all_ok)

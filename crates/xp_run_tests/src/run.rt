@@ -2,8 +2,9 @@
 use std::alloc::Global;
 use std::process::Abort;
 use std::test::Fail;
-use xp_base::{Byts, MemoryShelf, MemorySink, QuietShelf, QuietSink, StoredFile, Txt};
+use xp_base::{Byts, EvalError, MemoryShelf, MemorySink, QuietShelf, QuietSink, StoredFile, Txt};
 use xp_catalog::Why;
+use xp_rows::RowsFault;
 use xp_run::{Ending, Exit, run};
 
 const SMALL: &str =
@@ -16,16 +17,17 @@ fn stored(alloc: Global, name: &str, bytes: &str) -> Result<StoredFile, Fail> {
     Ok(StoredFile { name, text })
 }
 
-// The small catalogue as `c`, and the script as `s`.
+// The small catalogue as `c`, the script as `s`, and one row as `r`.
 fn files(alloc: Global, script: &str) -> Result<Vec<StoredFile>, Fail> {
     let catalog = stored(alloc, "c", SMALL)?;
     let script = stored(alloc, "s", script)?;
-    Ok(vec![in alloc; catalog, script]?)
+    let rows = stored(alloc, "r", "x int4\n1\n")?;
+    Ok(vec![in alloc; catalog, script, rows]?)
 }
 
 fn words(alloc: Global) -> Result<Vec<Txt>, Fail> {
     let mut all = Vec::new(alloc);
-    for word in ["run", "c", "s"] {
+    for word in ["run", "c", "s", "r"] {
         all.push(Txt::from_str(alloc, word)?)?;
     }
     Ok(all)
@@ -40,7 +42,7 @@ fn ends(
     exit: Exit,
     output: &str,
 ) -> Result<(), Fail> {
-    let files = files(alloc, "SELECT 7 / 2; SELECT 1")?;
+    let files = files(alloc, "SELECT 7 / 2; SELECT x")?;
     let mut shelf = MemoryShelf::new(files, vec![in alloc; calls.0]?);
     let mut sink = MemorySink::new(alloc, vec![in alloc; calls.1]?);
     sink.reserve(4096)?;
@@ -56,7 +58,7 @@ fn a_failing_load_is_a_read_fault(rt: HostRuntime) -> Result<(), Fail> {
         status: 3,
         end: Ending::ReadFault,
     };
-    for load in [1, 2] {
+    for load in [1, 2, 3] {
         ends(&rt, rt.alloc(), (load, 0), fault, "")?;
     }
     Ok(())
@@ -101,8 +103,32 @@ fn each_ending_has_its_line(rt: HostRuntime) -> Result<(), Fail> {
         line: 3,
         why: Why::Duplicate,
     };
+    let header = RowsFault::Header {
+        column: 2,
+        why: Why::BadName,
+    };
+    let field = RowsFault::Field {
+        row: 2,
+        column: 1,
+        error: EvalError::BadText,
+    };
+    let width = RowsFault::Width { row: 1 };
+    let many = RowsFault::TooMany { row: 100001 };
     let rows = [
         (bad, "BadCatalog line 3 Duplicate"),
+        (
+            Ending::BadRows { fault: header },
+            "BadRows header column 2 BadName",
+        ),
+        (Ending::BadRows { fault: width }, "BadRows width row 1"),
+        (
+            Ending::BadRows { fault: field },
+            "BadRows field row 2 column 1 bad_text",
+        ),
+        (
+            Ending::BadRows { fault: many },
+            "BadRows TooMany row 100001",
+        ),
         (Ending::BadWords, "BadWords"),
         (Ending::TooLong { read: 1048577 }, "TooLong 1048577"),
         (Ending::ReadFault, "ReadFault"),

@@ -1,10 +1,11 @@
 -- The small catalogue: bool and int4, the function div over int4, and the operator / over it.
-use Rattle.std.specs.Prelude.{[], ◌∷◌, true, false, codes, Some}
+use Rattle.std.specs.Prelude.{ℕ, List, [], ◌∷◌, true, false, codes, Some}
 use Rattle.xp_base.specs.declared.numbers.TypeNo.{TypeNo}
 use Rattle.xp_catalog.specs.Contents.{Contents, array_row, unknown_row}
 use Rattle.xp_catalog.specs.declared.rows.TypeKind.TheVariants as kind
 use Rattle.xp_catalog.specs.declared.rows.TypeRow.{TypeRow}
 use Rattle.xp_catalog.specs.declared.rows.Volatility.TheVariants.{Immutable}
+use Rattle.xp_run.specs.declared.inputs.Inputs.{Inputs}
 
 abbrev pub bool_row : TypeRow
 bool_row = record { name = codes "bool"; category = 66; preferred = true; kind = kind.Plain; line = 1 }
@@ -24,3 +25,7 @@ small = record {
   domains = [];
   ranges = [];
 }
+
+-- a script over the small catalogue, without a rows file
+abbrev pub over_small : List ℕ → Inputs
+over_small script = record { catalog = small; script = script; header = []; rows = [] ∷ [] }
