@@ -4,6 +4,7 @@
 #![tactic(auto)]
 
 mod runs;
+mod texts;
 
 use anyhow::Result;
 use runs::Runs;

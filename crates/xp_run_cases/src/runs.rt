@@ -1,7 +1,18 @@
-//! What is answered to a case: a catalogue of the folder by its name and a script; or `words` over
-//! two texts in memory, `padded` over the same texts with newlines behind them, or `files` over the
-//! files of the folder.
-use anyhow::{Result, bail, ensure};
+//! What is answered to a case. A catalogue is a file of the folder by its name, or `shipped`, or
+//! several of these with `+` between, one behind the other.
+//!
+//! | Case | Runs |
+//! |---|---|
+//! | `CATALOG SCRIPT` | a script without rows |
+//! | `rows CATALOG ROWS => SCRIPT` | a script over rows |
+//! | `wide CATALOG COUNT MORE => SCRIPT` | the same over so many columns |
+//! | `many CATALOG COUNT => SCRIPT` | the same over so many rows |
+//! | `nodes CATALOG SUMS NUMBERS MORE` | a script of many nodes |
+//! | `words WORD..` | the words, over texts in memory |
+//! | `padded CATALOG SCRIPT [ROWS]` | the same texts, with newlines behind them |
+//! | `files WORD..` | the words, over the files of the folder |
+use crate::texts::{many_rows, padded, select_of_nodes, wide_rows};
+use anyhow::{Result, bail};
 use std::alloc::Global;
 use std::fs;
 use std::rt::Files;
@@ -13,10 +24,9 @@ use xp_shipped::shipped;
 
 const ROOM: u64 = 65_536;
 
-/// The most bytes that a text is padded to.
-const LIMIT: usize = 8_000_000;
-
 const SCRIPT: &[u8] = b"SELECT 7 / 2";
+
+const ROWS: &[u8] = b"x int4\n1\n2\n";
 
 /// Answers by runs over texts in memory, or over the files of the system.
 #[derive(Drop)]
@@ -33,11 +43,12 @@ fn stored(alloc: Global, name: &str, bytes: &[u8]) -> Result<StoredFile> {
     })
 }
 
-/// A shelf with two texts, `small` and `script`.
-fn shelf_of(alloc: Global, catalog: &[u8], script: &[u8]) -> Result<MemoryShelf> {
+/// A shelf with three texts, `small`, `script` and `rows`.
+fn shelf_of(alloc: Global, catalog: &[u8], script: &[u8], rows: &[u8]) -> Result<MemoryShelf> {
     let catalog = stored(alloc, "small", catalog)?;
     let script = stored(alloc, "script", script)?;
-    let files = vec![in alloc; catalog, script]?;
+    let rows = stored(alloc, "rows", rows)?;
+    let files = vec![in alloc; catalog, script, rows]?;
     Ok(MemoryShelf::new(files, Vec::new(alloc)))
 }
 
@@ -59,14 +70,27 @@ fn run_over<F: Shelf>(alloc: Global, words: &str, shelf: &mut F) -> Result<Strin
     Ok(shown)
 }
 
-/// The text with newlines behind it, so many bytes in all.
-fn padded(alloc: Global, text: &[u8], length: usize) -> Result<Vec<u8>> {
-    ensure!(length < LIMIT, "too long");
-    let mut padded = text.to_vec(alloc)?;
-    for _ in text.len()..length {
-        padded.push(b'\n')?;
-    }
-    Ok(padded)
+fn over_script(alloc: Global, catalog: &[u8], script: &[u8]) -> Result<String> {
+    let mut shelf = shelf_of(alloc, catalog, script, ROWS)?;
+    run_over(alloc, "run small script", &mut shelf)
+}
+
+fn over_rows(alloc: Global, catalog: &[u8], script: &[u8], rows: &[u8]) -> Result<String> {
+    let mut shelf = shelf_of(alloc, catalog, script, rows)?;
+    run_over(alloc, "run small script rows", &mut shelf)
+}
+
+/// What stands before the first blank, and what stands behind it.
+fn cut(text: &str) -> (&str, &str) {
+    text.split_once(' ').unwrap_or((text, ""))
+}
+
+/// The words for the rows, and the bytes of the script behind `=>`, which no statement takes.
+fn rows_and_script(alloc: Global, text: &str) -> Result<(&str, Vec<u8>)> {
+    let Some((rows, script)) = text.split_once(" => ") else {
+        bail!("rows, => and a script are wanted");
+    };
+    Ok((rows, bytes(alloc, script)?))
 }
 
 impl<'a, R: Files + AllocGlobal> Runs<'a, R> {
@@ -74,48 +98,94 @@ impl<'a, R: Files + AllocGlobal> Runs<'a, R> {
         Runs { rt }
     }
 
-    /// The catalogue of that name: the shipped one, or a file of the folder.
-    fn catalog(&self, alloc: Global, name: &str) -> Result<Vec<u8>> {
+    /// The shipped catalogue, or that of a file of the folder.
+    fn one_catalog(&self, alloc: Global, name: &str) -> Result<Vec<u8>> {
         if name == "shipped" {
             return Ok(shipped(alloc)?.as_slice().to_vec(alloc)?);
         }
         let path = format!(in alloc; "{name}.csv")?;
         Ok(fs::read(self.rt, path.as_str())?)
     }
-}
 
-fn padded_answer(alloc: Global, small: &[u8], lengths: &str) -> Result<String> {
-    let Some((catalog, script)) = lengths.split_once(' ') else {
-        bail!("two lengths are wanted");
-    };
-    let catalog = padded(alloc, small, catalog.parse()?)?;
-    let script = padded(alloc, SCRIPT, script.parse()?)?;
-    run_over(
-        alloc,
-        "run small script",
-        &mut shelf_of(alloc, &catalog, &script)?,
-    )
+    /// The catalogues of these names, one behind the other.
+    fn catalog(&self, alloc: Global, names: &str) -> Result<Vec<u8>> {
+        let mut whole = Vec::new(alloc);
+        for name in names.split('+') {
+            whole.extend_from_slice(self.one_catalog(alloc, name)?.as_slice())?;
+        }
+        Ok(whole)
+    }
+
+    fn scripts(&self, alloc: Global, name: &str, script: &str) -> Result<String> {
+        let catalog = self.catalog(alloc, name)?;
+        over_script(alloc, &catalog, &bytes(alloc, script)?)
+    }
+
+    fn rows(&self, alloc: Global, text: &str) -> Result<String> {
+        let (name, rest) = cut(text);
+        let (rows, script) = rows_and_script(alloc, rest)?;
+        over_rows(
+            alloc,
+            &self.catalog(alloc, name)?,
+            &script,
+            &bytes(alloc, rows)?,
+        )
+    }
+
+    fn wide(&self, alloc: Global, text: &str) -> Result<String> {
+        let (name, rest) = cut(text);
+        let (header, script) = rows_and_script(alloc, rest)?;
+        let (count, more) = cut(header);
+        let rows = wide_rows(alloc, count.parse()?, more)?;
+        over_rows(alloc, &self.catalog(alloc, name)?, &script, &rows)
+    }
+
+    fn many(&self, alloc: Global, text: &str) -> Result<String> {
+        let (name, rest) = cut(text);
+        let (count, script) = rows_and_script(alloc, rest)?;
+        let rows = many_rows(alloc, count.parse()?)?;
+        over_rows(alloc, &self.catalog(alloc, name)?, &script, &rows)
+    }
+
+    fn nodes(&self, alloc: Global, text: &str) -> Result<String> {
+        let (name, rest) = cut(text);
+        let (sums, rest) = cut(rest);
+        let (numbers, more) = cut(rest);
+        let script = select_of_nodes(alloc, sums.parse()?, numbers.parse()?, more)?;
+        over_script(alloc, &self.catalog(alloc, name)?, script.as_bytes())
+    }
+
+    fn words(&self, alloc: Global, words: &str) -> Result<String> {
+        let small = self.catalog(alloc, "small")?;
+        run_over(alloc, words, &mut shelf_of(alloc, &small, SCRIPT, ROWS)?)
+    }
+
+    fn padded(&self, alloc: Global, lengths: &str) -> Result<String> {
+        let (catalog, rest) = cut(lengths);
+        let (script, rows) = cut(rest);
+        let small = self.catalog(alloc, "small")?;
+        let catalog = padded(alloc, &small, catalog.parse()?)?;
+        let script = padded(alloc, SCRIPT, script.parse()?)?;
+        if rows.is_empty() {
+            return over_script(alloc, &catalog, &script);
+        }
+        let rows = padded(alloc, ROWS, rows.parse()?)?;
+        over_rows(alloc, &catalog, &script, &rows)
+    }
 }
 
 impl<R: Files + AllocGlobal> Answers for Runs<'_, R> {
     fn answer(&self, alloc: Global, case: &str) -> Result<String> {
-        let (word, rest) = case.split_once(' ').unwrap_or((case, ""));
+        let (word, rest) = cut(case);
         match word {
+            "rows" => self.rows(alloc, rest),
+            "wide" => self.wide(alloc, rest),
+            "many" => self.many(alloc, rest),
+            "nodes" => self.nodes(alloc, rest),
+            "words" => self.words(alloc, rest),
+            "padded" => self.padded(alloc, rest),
             "files" => run_over(alloc, rest, &mut FileShelf::new(self.rt)),
-            "padded" => padded_answer(alloc, &self.catalog(alloc, "small")?, rest),
-            "words" => {
-                let small = self.catalog(alloc, "small")?;
-                run_over(alloc, rest, &mut shelf_of(alloc, &small, SCRIPT)?)
-            }
-            _ => {
-                let catalog = self.catalog(alloc, word)?;
-                let script = bytes(alloc, rest)?;
-                run_over(
-                    alloc,
-                    "run small script",
-                    &mut shelf_of(alloc, &catalog, &script)?,
-                )
-            }
+            _ => self.scripts(alloc, word, rest),
         }
     }
 }

@@ -1,0 +1,93 @@
+-- Worked examples over the catalogue pg16.csv and the rows of worked.csv, whose columns are
+-- id int4, customer text, qty int4, total numeric and paid date.
+
+-- ---- What expressions are (statements 1 to 4): their types, and what each call means.
+DESCRIBE total * qty - 5, paid + 30, upper(customer) || ' #' || id;
+DESCRIBE customer < 'M', paid - '2024-01-01', total > 100;
+DESCRIBE round(total), round(total, 1), sqrt(qty);
+DESCRIBE id, 'a text', NULL, 7, 2147483648, 1.5, 1e3, TRUE;
+
+-- ---- Operators (5 to 16).
+-- Exactly the types of the operands.
+DESCRIBE 7 / 2, qty + 9000000000, paid - paid;
+-- A literal is first taken as the other operand's type.
+DESCRIBE qty + '5', paid > '2024-03-01', total / '3', '5' * qty;
+-- The most exact matches; else the most preferred types.
+DESCRIBE 7 / 2.0, qty < total, qty ^ 2;
+-- Literals alone: a string where one is taken, else the preferred type of the category.
+DESCRIBE 'abc' || 'def', @ '-4.5', - '1';
+-- One candidate is left.
+DESCRIBE |/ 40, paid + 7, 7 + paid;
+-- Values of any type beside a text, arrays beside elements, ranges beside bounds.
+DESCRIBE customer || total, id || customer, '{1,2}'::int4[] || 3, '[1,9)'::int4range @> 3;
+DESCRIBE '{1,2}'::int4[] <@ '{1,2,3}', '{1,2}'::int4[] = '{1,2}', '[1,9)'::int4range * '[5,20)';
+-- Several are left, and one is told by a cast; none is left.
+DESCRIBE ~ '20';
+DESCRIBE ~ CAST('20' AS int8);
+DESCRIBE customer + 1;
+DESCRIBE total & 1;
+-- Prefix operators, signs among them, and what binds how.
+DESCRIBE - qty, -qty ^ 2, @ total - 5, 5 & ~ 1;
+
+-- ---- Functions (17 to 26).
+-- By their arguments' types; literals as with operators.
+DESCRIBE length(customer), length('abc'), length('abc'::bpchar), length('\x00ff'::bytea);
+DESCRIBE substr(varchar '1234', 3), left(customer, '3'), div(7, 2), mod(7, 2), abs('-5');
+DESCRIBE lower('ABC'), lower('[1,9)'::int4range), make_date(2024, 3, '5');
+DESCRIBE substr(1234, 3);
+-- Any number of arguments, also as one array.
+DESCRIBE concat(id, ': ', total, NULL), concat_ws(', ', customer, paid);
+DESCRIBE concat(VARIADIC '{a,b}'::text[]), concat_ws('-', VARIADIC '{1,2}'::int4[]);
+-- A type's name may ask for a cast.
+DESCRIBE numeric('5'), text(total), varchar(customer), int8(qty), date('2024-03-05');
+-- Polymorphic arguments: one type of elements, or one that all are brought to.
+DESCRIBE array_length('{1,2}'::int4[], 1), cardinality('{a}'::text[]), upper('[1,9)'::int8range);
+DESCRIBE array_append('{1,2}'::int4[], 2.5), array_append('{1,2}'::int4[], '3'), array_cat(NULL, '{a}');
+DESCRIBE array_to_string('{1,2}'::int4[], ', '), array_positions('{1,2}'::int4[], 2);
+
+-- ---- Constants of a type, casts, and functions that are written by words (27 to 32).
+DESCRIBE date '2024-02-29', numeric '1.50', boolean 'yes', char 'abc', interval '1 day';
+DESCRIBE CAST(total AS int4), total::numeric(6,1), customer::varchar(10), id::text, '{1,2}'::int[];
+DESCRIBE '1.5'::double precision, paid::timestamp with time zone, '7'::int4::bool, NULL::date;
+DESCRIBE POSITION('n' IN customer), EXTRACT(year FROM paid), EXTRACT('epoch' FROM paid);
+DESCRIBE SUBSTRING(customer FROM 2 FOR 3), SUBSTRING(customer FOR 2), SUBSTRING(customer, 2);
+DESCRIBE TRIM(customer), TRIM(LEADING 'A' FROM customer), TRIM(TRAILING FROM customer), TRIM(BOTH customer, 'x');
+
+-- ---- Values over the rows (33 to 37).
+SELECT id, customer, qty;
+SELECT id * 10 + qty % 3, qty = 3, qty < 5, (qty + 1) / 2;
+SELECT id AS number, customer::varchar AS "name", '40'::int4 + id;
+-- Null, an empty text, texts with commas, quotes and backslashes.
+SELECT id, NULL, '', 'a, b', 'say "hi"', '\N', '\\srv\x', 'a\b';
+SELECT true, boolean 'off', smallint '-5', bigint '9000000000', 2147483648, text 'it''s', NULL::int4 + 1;
+
+-- ---- Errors (38 to 42): of a constant part, before any row; of a row, behind the rows before it.
+SELECT id, 1 / 0;
+SELECT qty + 2147483647 * 2;
+SELECT id, 60 / qty;
+SELECT id + 2147483644;
+SELECT 60 / qty, 1 % (2 - 2);
+
+-- ---- Refusals (43 to 60), each with its code and the byte at which it stands.
+SELECT id FROM customer;
+SELECT qty IS NULL;
+SELECT qty - customer;
+SELECT upper();
+SELECT ~ '20';
+SELECT array_length('{1,2}', 1);
+SELECT paid::int4;
+SELECT quantity;
+SELECT '5'::money;
+SELECT customer::varchar(0);
+SELECT qty + 'five';
+SELECT 7 / '9999999999';
+SELECT bool 'maybe';
+SELECT 100000000000000000000000000000000000000;
+SELECT total + 1;
+SELECT id, upper(customer);
+SELECT float8 '1.5';
+SELECT concat(1,1,1,1,1,1,1,1,1,1,1,1,1,1,1,1,1,1,1,1,1,1,1,1,1,1,1,1,1,1,1,1,1,1,1,1,1,1,1,1,1,1,1,1,1,1,1,1,1,1,1,1,1,1,1,1,1,1,1,1,1,1,1,1,1,1,1,1,1,1,1,1,1,1,1,1,1,1,1,1,1,1,1,1,1,1,1,1,1,1,1,1,1,1,1,1,1,1,1,1,1);
+
+-- ---- A text without end (61), which ends the script.
+SELECT 'never closed;
+SELECT 1;
