@@ -25,13 +25,22 @@ fn new_writer(alloc: Global) -> Writer<Vec<u8>>
         .from_writer(Vec::new(alloc))
 }
 
+/// Puts a new writer in the place of one. A function pays at its entry for the room of all that it
+/// may make, and a writer has much: so no other makes one on the way of a row.
+#[inline(never)]
+fn start_anew(alloc: Global, writer: &mut Writer<Vec<u8>>)
+    ensures { IsIdle writer.new }
+{
+    *writer = new_writer(alloc);
+}
+
 /// Puts a new writer in the place of one with much text.
 fn renew(alloc: Global, writer: &mut Writer<Vec<u8>>)
     requires { IsIdle writer.old }
     ensures { IsIdle writer.new }
 {
     if writer.get_ref().len() > TEXT_LIMIT {
-        *writer = new_writer(alloc);
+        start_anew(alloc, writer);
     }
 }
 
@@ -96,7 +105,7 @@ impl RowPrinter {
         renew(self.alloc, &mut self.writer);
         self.start = self.writer.get_ref().len();
         if write_record(&mut self.writer, &self.fields).is_err() {
-            self.writer = new_writer(self.alloc);
+            start_anew(self.alloc, &mut self.writer);
             self.start = 0;
             return Err(Memory);
         }
