@@ -1,4 +1,2 @@
 pub mod Calls
 pub mod Integers
-pub mod Operations
-pub mod inner

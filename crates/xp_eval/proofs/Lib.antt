@@ -1,4 +1,2 @@
 pub mod Called
-pub mod Lengths
-pub mod Reading
 pub mod Rest

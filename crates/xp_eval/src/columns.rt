@@ -18,8 +18,7 @@ pub fn column(alloc: Global, row: &[Value], number: u32) -> Result<Value, Memory
     }
 }
 
-/// The text in a representation of texts.
-pub fn text_in(rep: Rep, text: Txt) -> Value
+fn text_in(rep: Rep, text: Txt) -> Value
     ensures { result ≡ text_in rep text }
 {
     match rep {
@@ -39,7 +38,7 @@ pub fn relabel(rep: Rep, value: Value) -> Value
     }
 }
 
-pub fn is_null(value: &Value) -> bool
+fn is_null(value: &Value) -> bool
     ensures { result ≡ is_null value.now }
 {
     matches!(value, Value::Null)
