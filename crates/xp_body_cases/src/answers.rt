@@ -1,5 +1,5 @@
 //! What is answered for a case: a word that says what is asked, and its arguments.
-use crate::{integers, values};
+use crate::{calls, integers, values};
 use anyhow::{Result, bail};
 use std::alloc::Global;
 use xp_cases::Answers;
@@ -11,6 +11,7 @@ impl Answers for Bodies {
     fn answer(&self, alloc: Global, case: &str) -> Result<String> {
         let (word, rest) = case.split_once(' ').unwrap_or((case, ""));
         match word {
+            "call" => calls::calls(alloc, rest),
             "arithmetic" => integers::arithmetic(alloc, rest),
             "signs" => integers::signs(alloc, rest),
             "bits" => integers::bits(alloc, rest),

@@ -1,8 +1,10 @@
-//! `xp_body_cases TABLE..`: the functions of the integer types, and values, their order and copies,
-//! case by case. It stands on xp_int and xp_value; `stdout` is what the manual's rules say.
+//! `xp_body_cases TABLE..`: the functions of the integer types, calls of their bodies, and values,
+//! their order and copies, case by case. It stands on xp_int, xp_call and xp_value; `stdout` is what
+//! the manual's rules say.
 #![tactic(auto)]
 
 mod answers;
+mod calls;
 mod integers;
 mod values;
 

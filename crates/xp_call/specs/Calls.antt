@@ -1,24 +1,18 @@
 -- What a body gives of its arguments, by its number in the table of bodies (manual 9).
-use Rattle.std.specs.Prelude.{◌≡◌, List, [], ◌∷◌, Bool, true, false, ◌&&◌, is_some, Option, Some, None, Result, Ok, Err, if◌then◌else◌}
+use Rattle.std.specs.Prelude.{List, Bool, true, false, is_some, Option, Some, None, Result, Ok, Err}
 use Rattle.xp_base.specs.OrMemory.{OrMemory}
 use Rattle.xp_base.specs.declared.codes.EvalError.{EvalError}
 use Rattle.xp_base.specs.declared.codes.EvalError.TheVariants.{Limit}
 use Rattle.xp_base.specs.declared.numbers.BodyNo.{BodyNo}
-use Rattle.xp_value.specs.Representation.{has_bits}
 use Rattle.xp_value.specs.declared.value.Value.{Value}
-use Rattle.xp_value.specs.declared.value.Value.TheVariants as value
-use Rattle.xp_call.specs.Integers.{operation_at, outcome_of}
+use Rattle.xp_call.specs.Integers.{applied}
+use Rattle.xp_call.specs.Operations.{operation_at}
 use Rattle.xp_call.specs.declared.fault.CallFault.{CallFault}
 use Rattle.xp_call.specs.declared.fault.CallFault.TheVariants as fault
-use Rattle.xp_call.specs.declared.integers.Operation.{Operation}
+use Rattle.xp_call.specs.declared.operations.Operation.{Operation}
 
 abbrev pub is_built : BodyNo → Bool
 is_built body = is_some (operation_at body)
-
--- over two int4; other arguments, which no typed tree has, count as past a limit
-abbrev pub applied : Operation → List Value → Result Value EvalError
-applied operation (value.Int a ∷ value.Int b ∷ []) = if has_bits 32 a && has_bits 32 b then outcome_of operation a b else Err Limit
-applied operation _ = Err Limit
 
 -- a body that isn't built, of which no call is evaluated, counts as past a limit
 abbrev pub by_operation : Option Operation → List Value → Result Value EvalError

@@ -1,2 +1,4 @@
 pub mod Calls
 pub mod Integers
+pub mod Operations
+pub mod inner

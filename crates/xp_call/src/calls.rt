@@ -1,39 +1,206 @@
 //! Calls of bodies.
-ghost use Rattle.std.specs.Prelude.{◌≡◌};
-ghost use Rattle.xp_call.specs.Calls.{Calls, applied, body_outcome, is_built};
+ghost use Rattle.std.specs.Prelude.{◌≡◌, IfSome, true};
+ghost use Rattle.xp_int.specs.Integers.{bits};
+ghost use Rattle.xp_value.specs.Representation.{has_bits};
+ghost use Rattle.xp_call.specs.Calls.{Calls, body_outcome, is_built};
+ghost use Rattle.xp_call.specs.Integers.{applied, bool_in, integer_in, type_of};
 
 use crate::fault::CallFault;
-use crate::integers::{Operation, apply, operation_of};
+use crate::integers::{binary, cast, compare, compare_bools, shift, unary};
+use crate::operations::{Binary, Comparison, IntType, Operation, Shift, Unary, operation_at};
 use std::alloc::Global;
 use xp_base::{BodyNo, EvalError};
+use xp_int::{bool_int4, int4_bool, to_hex_int4, to_hex_int8};
 use xp_value::Value;
 
 /// Whether calls of the body are built. A call of any other counts as one without a body.
 pub fn is_built(body: BodyNo) -> bool
     ensures { result ≡ is_built body }
 {
-    operation_of(body).is_some()
+    operation_at(body).is_some()
 }
 
-/// The body over two int4.
-fn applied(operation: Operation, args: &[Value]) -> Result<Value, EvalError>
-    ensures { result ≡ applied operation args.now }
+/// Whether the type has the number.
+fn has(ty: IntType, number: i64) -> bool
+    ensures { result ≡ has_bits (bits (type_of ty)) number }
 {
-    let [Value::Int(a), Value::Int(b)] = args else {
+    match ty {
+        IntType::Int2 => i16::try_from(number).is_ok(),
+        IntType::Int4 => i32::try_from(number).is_ok(),
+        IntType::Int8 => true,
+    }
+}
+
+/// The number, where the value is one of the type.
+fn integer(ty: IntType, value: &Value) -> Option<i64>
+    ensures value { result ≡ integer_in ty value.now }
+    ensures within { IfSome result (λ n. has_bits (bits (type_of ty)) n ≡ true) }
+{
+    match value {
+        Value::Int(number) if has(ty, *number) => Some(*number),
+        _ => None,
+    }
+}
+
+fn truth(value: &Value) -> Option<bool>
+    ensures { result ≡ bool_in value.now }
+{
+    match value {
+        Value::Bool(truth) => Some(*truth),
+        _ => None,
+    }
+}
+
+fn call_binary(word: Binary, a: IntType, b: IntType, args: &[Value]) -> Result<Value, EvalError>
+    ensures { result ≡ applied (Operation.Binary word a b) args.now }
+{
+    let [first, second] = args else {
         return Err(EvalError::Limit);
     };
-    match (i32::try_from(*a), i32::try_from(*b)) {
-        (Ok(a), Ok(b)) => apply(operation, a, b),
+    match (integer(a, first), integer(b, second)) {
+        (Some(x), Some(y)) => binary(word, a.wider(b), x, y),
         _ => Err(EvalError::Limit),
     }
 }
 
+fn call_unary(word: Unary, a: IntType, args: &[Value]) -> Result<Value, EvalError>
+    ensures { result ≡ applied (Operation.Unary word a) args.now }
+{
+    let [only] = args else {
+        return Err(EvalError::Limit);
+    };
+    match integer(a, only) {
+        Some(x) => unary(word, a, x),
+        None => Err(EvalError::Limit),
+    }
+}
+
+fn call_shift(word: Shift, a: IntType, args: &[Value]) -> Result<Value, EvalError>
+    ensures { result ≡ applied (Operation.Shift word a) args.now }
+{
+    let [first, second] = args else {
+        return Err(EvalError::Limit);
+    };
+    match (integer(a, first), integer(IntType::Int4, second)) {
+        (Some(x), Some(count)) => Ok(shift(word, a, x, count)),
+        _ => Err(EvalError::Limit),
+    }
+}
+
+fn call_compare(
+    word: Comparison,
+    a: IntType,
+    b: IntType,
+    args: &[Value],
+) -> Result<Value, EvalError>
+    ensures { result ≡ applied (Operation.Compare word a b) args.now }
+{
+    let [first, second] = args else {
+        return Err(EvalError::Limit);
+    };
+    match (integer(a, first), integer(b, second)) {
+        (Some(x), Some(y)) => Ok(Value::Bool(compare(word, x, y))),
+        _ => Err(EvalError::Limit),
+    }
+}
+
+fn call_compare_bools(word: Comparison, args: &[Value]) -> Result<Value, EvalError>
+    ensures { result ≡ applied (Operation.CompareBools word) args.now }
+{
+    let [first, second] = args else {
+        return Err(EvalError::Limit);
+    };
+    match (truth(first), truth(second)) {
+        (Some(x), Some(y)) => Ok(Value::Bool(compare_bools(word, x, y))),
+        _ => Err(EvalError::Limit),
+    }
+}
+
+fn call_cast(from: IntType, to: IntType, args: &[Value]) -> Result<Value, EvalError>
+    ensures { result ≡ applied (Operation.Cast from to) args.now }
+{
+    let [only] = args else {
+        return Err(EvalError::Limit);
+    };
+    match integer(from, only) {
+        Some(x) => cast(to, x),
+        None => Err(EvalError::Limit),
+    }
+}
+
+fn call_bool_of_int4(args: &[Value]) -> Result<Value, EvalError>
+    ensures { result ≡ applied Operation.BoolOfInt4 args.now }
+{
+    let [only] = args else {
+        return Err(EvalError::Limit);
+    };
+    match integer(IntType::Int4, only) {
+        Some(x) => Ok(Value::Bool(bool_int4(x as i32))),
+        None => Err(EvalError::Limit),
+    }
+}
+
+fn call_int4_of_bool(args: &[Value]) -> Result<Value, EvalError>
+    ensures { result ≡ applied Operation.Int4OfBool args.now }
+{
+    let [only] = args else {
+        return Err(EvalError::Limit);
+    };
+    match truth(only) {
+        Some(x) => Ok(Value::Int(i64::from(int4_bool(x)))),
+        None => Err(EvalError::Limit),
+    }
+}
+
+fn call_hex_of_int4(alloc: Global, args: &[Value]) -> Result<Value, CallFault>
+    ensures { Calls (applied Operation.HexOfInt4 args.now) result }
+{
+    let [only] = args else {
+        return Err(CallFault::Raised(EvalError::Limit));
+    };
+    match integer(IntType::Int4, only) {
+        Some(x) => Ok(Value::Text(to_hex_int4(alloc, x as i32)?)),
+        None => Err(CallFault::Raised(EvalError::Limit)),
+    }
+}
+
+fn call_hex_of_int8(alloc: Global, args: &[Value]) -> Result<Value, CallFault>
+    ensures { Calls (applied Operation.HexOfInt8 args.now) result }
+{
+    let [only] = args else {
+        return Err(CallFault::Raised(EvalError::Limit));
+    };
+    match integer(IntType::Int8, only) {
+        Some(x) => Ok(Value::Text(to_hex_int8(alloc, x)?)),
+        None => Err(CallFault::Raised(EvalError::Limit)),
+    }
+}
+
+/// What the operation gives of these values.
+fn apply(alloc: Global, operation: Operation, args: &[Value]) -> Result<Value, CallFault>
+    ensures { Calls (applied operation args.now) result }
+{
+    let outcome = match operation {
+        Operation::Binary(word, a, b) => call_binary(word, a, b, args),
+        Operation::Unary(word, a) => call_unary(word, a, args),
+        Operation::Shift(word, a) => call_shift(word, a, args),
+        Operation::Compare(word, a, b) => call_compare(word, a, b, args),
+        Operation::CompareBools(word) => call_compare_bools(word, args),
+        Operation::Cast { from, to } => call_cast(from, to, args),
+        Operation::BoolOfInt4 => call_bool_of_int4(args),
+        Operation::Int4OfBool => call_int4_of_bool(args),
+        Operation::HexOfInt4 => return call_hex_of_int4(alloc, args),
+        Operation::HexOfInt8 => return call_hex_of_int8(alloc, args),
+    };
+    outcome.map_err(CallFault::Raised)
+}
+
 /// What the body gives of its arguments.
-pub fn call(_: Global, body: BodyNo, args: &[Value]) -> Result<Value, CallFault>
+pub fn call(alloc: Global, body: BodyNo, args: &[Value]) -> Result<Value, CallFault>
     ensures { Calls (body_outcome body args.now) result }
 {
-    match operation_of(body) {
-        Some(operation) => applied(operation, args).map_err(CallFault::Raised),
+    match operation_at(body) {
+        Some(operation) => apply(alloc, operation, args),
         None => Err(CallFault::Raised(EvalError::Limit)),
     }
 }

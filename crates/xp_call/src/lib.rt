@@ -5,6 +5,7 @@
 mod calls;
 mod fault;
 mod integers;
+mod operations;
 
 pub use calls::{call, is_built};
 pub use fault::CallFault;

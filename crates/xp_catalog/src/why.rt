@@ -34,7 +34,7 @@ pub enum Why {
     UnknownFunction,
     #[error("not as its body says")]
     BodyMismatch,
-    #[error("checks are not built")]
+    #[error("not a truth value over VALUE")]
     BadCheck,
     #[error("too many records")]
     TooMany,

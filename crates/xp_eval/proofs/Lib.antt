@@ -1,2 +1,4 @@
 pub mod Called
+pub mod Lengths
+pub mod Reading
 pub mod Rest

@@ -1,17 +1,19 @@
 -- What a loop over trees has left: the next one, and what is behind it.
-use Rattle.std.proofs.Common.{◌≡◌, ℕ, zero, suc, ◌+◌, ◌<◌, ◌≤◌, List, [], ◌∷◌, ◌++◌, Bool, true, false, ◌&&◌, length, get_or, drop, map, refl, sym, ap, ◌∙◌, max, arith, Option, Some, None, Ok, Err}
+use Rattle.std.proofs.Common.{◌≡◌, ℕ, zero, suc, ◌+◌, ◌<◌, ◌≤◌, List, [], ◌∷◌, ◌++◌, Bool, true, false, ◌&&◌, length, get_or, drop, map, refl, sym, ap, ◌∙◌, arith, Option, Some, None, Ok, Err}
 use Rattle.std.proofs.lemmas.Bool.{and_parts}
 use Rattle.xp_base.proofs.Lists.{drop_one, drop_none}
 use Rattle.xp_base.specs.declared.codes.EvalError.{EvalError}
 use Rattle.xp_base.specs.declared.numbers.BodyNo.{BodyNo}
 use Rattle.xp_base.specs.declared.numbers.RowNo.{RowNo}
+use Rattle.xp_tree.specs.declared.parts.Modifier.{Modifier}
 use Rattle.xp_tree.specs.declared.parts.NodeType.{NodeType}
+use Rattle.xp_tree.specs.Rests.{is_represented}
 use Rattle.xp_tree.specs.View.{checked_by}
-use Rattle.std.specs.Prelude.{if◌then◌else◌}
-use Rattle.xp_tree.specs.Term.{Term, terms, conjunction, disjunction, null_if, distinct, subscript, call, coalesce, greatest, least, array, leaf, one, two, many, case, domain, checked, is_const}
+use Rattle.std.specs.Prelude.{IfOk, Result, if◌then◌else◌}
+use Rattle.xp_tree.specs.Term.{Term, terms, conjunction, disjunction, null_if, distinct, subscript, call, coalesce, greatest, least, array, leaf, one, two, many, case, domain, checked, is_const, sizing}
 use Rattle.xp_tree.specs.inner.Heights.{height, height_all}
 use Rattle.xp_meaning.specs.Early.{at_once, early, early_all, early_arms, early_first, first_error, settles, whole_or}
-use Rattle.xp_meaning.specs.Evaluable.{all_evaluable, is_evaluable}
+use Rattle.xp_meaning.specs.Evaluable.{all_evaluable, is_evaluable, is_length_built}
 use Rattle.xp_meaning.specs.Truth.{Outcome, is_false, is_true}
 use Rattle.xp_eval.specs.Real.{early_error, first_raised, real}
 
@@ -81,6 +83,32 @@ early_whole (checked a number not_null check ty) h = whole (checked a number not
 pub const_error : (t : Term) (e : Option EvalError) → is_const t ≡ true → e ≡ first_raised (t ∷ []) → e ≡ early_error t
 const_error t e h is = is ∙ sym (ap first_raised (early_whole t h))
 
-pub no_domain : (built : BodyNo → Bool) (a : Term) (row : RowNo) (not_null : Bool) (check : Option Term) (ty : NodeType) → is_evaluable built (checked_by a row not_null check ty) ≡ false
-no_domain built a row not_null None ty = refl
-no_domain built a row not_null (Some check) ty = refl
+pub check_evaluable : (built : BodyNo → Bool) (a : Term) (row : RowNo) (not_null : Bool) (check : Option Term) (ty : NodeType) (k : Term) → check ≡ Some k
+    → is_evaluable built (checked_by a row not_null check ty) ≡ true → is_evaluable built k ≡ true
+check_evaluable built a row not_null None ty k e h = absurd cc
+check_evaluable built a row not_null (Some c) ty k e h =
+    let same : k ≡ c = cc in
+    ap (is_evaluable built) same ∙ (and_parts (is_represented ty && is_evaluable built a) (is_evaluable built c) h).1
+
+-- the argument of a domain raises
+pub domain_error : (a : Term) (row : RowNo) (not_null : Bool) (check : Option Term) (ty : NodeType) (e : EvalError) → is_const (checked_by a row not_null check ty) ≡ false
+    → Some e ≡ early_error a → Some e ≡ early_error (checked_by a row not_null check ty)
+domain_error a row not_null None ty e h is = rw h is
+domain_error a row not_null (Some c) ty e h is =
+    rw h (ap (λ o. or_later o (early_error c)) is ∙ sym (raised_behind (early real a) (early real c)))
+
+-- it doesn't, so the check decides
+pub check_error : (a : Term) (row : RowNo) (not_null : Bool) (check : Option Term) (ty : NodeType) (k : Term) (o : Option EvalError) → check ≡ Some k
+    → is_const (checked_by a row not_null check ty) ≡ false → None ≡ early_error a → o ≡ early_error k → o ≡ early_error (checked_by a row not_null check ty)
+check_error a row not_null None ty k o e h none is = absurd cc
+check_error a row not_null (Some c) ty k o e h none is =
+    let same : early_error k ≡ early_error c = let at : k ≡ c = cc in ap early_error at in
+    rw h (is ∙ same ∙ ap (λ u. or_later u (early_error c)) none ∙ sym (raised_behind (early real a) (early real c)))
+
+pub sizing_argument : (built : BodyNo → Bool) (m : Modifier) (cut : Bool) (a : Term) (ty : NodeType) → is_evaluable built (one (sizing m cut) a ty) ≡ true → is_evaluable built a ≡ true
+sizing_argument built m cut a ty h = (and_parts (is_length_built m ty.rep && is_represented ty) (is_evaluable built a) h).1
+
+pub check_said : {M : Type 0} (a : Term) (row : RowNo) (not_null : Bool) (check : Option Term) (ty : NodeType) (k : Term) (r : Result (Option EvalError) M) → check ≡ Some k
+    → is_const (checked_by a row not_null check ty) ≡ false → None ≡ early_error a → IfOk r (λ e. e ≡ early_error k) → IfOk r (λ e. e ≡ early_error (checked_by a row not_null check ty))
+check_said a row not_null check ty k (Ok o) e h none is = check_error a row not_null check ty k o e h none is
+check_said a row not_null check ty k (Err m) e h none is = tt

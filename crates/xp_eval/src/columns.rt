@@ -18,7 +18,8 @@ pub fn column(alloc: Global, row: &[Value], number: u32) -> Result<Value, Memory
     }
 }
 
-fn text_in(rep: Rep, text: Txt) -> Value
+/// The text in a representation of texts.
+pub fn text_in(rep: Rep, text: Txt) -> Value
     ensures { result ≡ text_in rep text }
 {
     match rep {
@@ -38,7 +39,7 @@ pub fn relabel(rep: Rep, value: Value) -> Value
     }
 }
 
-fn is_null(value: &Value) -> bool
+pub fn is_null(value: &Value) -> bool
     ensures { result ≡ is_null value.now }
 {
     matches!(value, Value::Null)

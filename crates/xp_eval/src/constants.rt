@@ -26,7 +26,7 @@ fn error_of(alloc: Global, t: &Tree) -> Result<Option<EvalError>, Memory>
 
 /// The error of the first part that may be evaluated early and raises; none where no part does.
 #[cycle(early)]
-#[tactic(auto, using(crate::proofs::Rest::const_error))]
+#[tactic(auto, using(crate::proofs::Rest::const_error, crate::proofs::Rest::check_evaluable))]
 pub fn early(alloc: Global, t: &Tree) -> Result<Option<EvalError>, Memory>
     requires { is_evaluable is_built t.now ≡ true }
     ensures { IfOk result (λ e. e ≡ early_error t.now) }
@@ -35,9 +35,19 @@ pub fn early(alloc: Global, t: &Tree) -> Result<Option<EvalError>, Memory>
         return error_of(alloc, t);
     }
     match t.top() {
-        Node::Constant { .. } | Node::Column { .. } => Ok(None),
-        Node::Relabel { arg, .. } => early(alloc, arg),
+        Node::Constant { .. } | Node::Column { .. } | Node::Given { .. } => Ok(None),
+        Node::Output { arg, .. }
+        | Node::Input { arg, .. }
+        | Node::Relabel { arg, .. }
+        | Node::Sizing { arg, .. } => early(alloc, arg),
         Node::Call { args, .. } => early_all(alloc, args.as_slice()),
+        Node::Domain { arg, check, .. } => match early(alloc, arg)? {
+            Some(error) => Ok(Some(error)),
+            None => match check {
+                Some(check) => early(alloc, check),
+                None => Ok(None),
+            },
+        },
         _ => unreachable!(),
     }
 }

@@ -4,10 +4,11 @@ ghost use Rattle.xp_call.specs.Calls.{is_built};
 ghost use Rattle.xp_meaning.specs.Evaluable as spec;
 ghost use Rattle.xp_tree.specs.Rests.{is_represented};
 ghost use Rattle.xp_tree.specs.Term.{terms};
+ghost use Rattle.xp_tree.specs.Typed.{is_text};
 
 use xp_base::BodyNo;
 use xp_call::is_built;
-use xp_tree::{Node, NodeType, Tree};
+use xp_tree::{Modifier, Node, NodeType, Tree};
 use xp_value::Rep;
 
 fn has_body(body: Option<BodyNo>) -> bool
@@ -25,24 +26,52 @@ fn is_represented(ty: NodeType) -> bool
     ty.rep != Rep::Opaque
 }
 
+fn is_text(rep: Rep) -> bool
+    ensures { result ≡ is_text rep }
+{
+    matches!(rep, Rep::Text | Rep::Pad)
+}
+
+/// Whether values of the representation are brought to the modifier.
+fn is_sized(modifier: Modifier, rep: Rep) -> bool
+    ensures { result ≡ spec.is_length_built modifier rep }
+{
+    match modifier {
+        Modifier::Length(_) => is_text(rep),
+        _ => false,
+    }
+}
+
 /// Whether each node of the tree can be evaluated.
 #[cycle(evaluable)]
-#[tactic(auto, using(xp_tree::proofs::Rest::height_at, crate::proofs::Rest::no_domain))]
+#[tactic(auto, using(xp_tree::proofs::Rest::height_at))]
 pub fn is_evaluable(tree: &Tree) -> bool
     ensures { result ≡ spec.is_evaluable is_built tree.now }
 {
     match tree.top() {
-        Node::Constant { ty, .. } | Node::Column { ty, .. } => is_represented(*ty),
-        Node::Relabel { arg, ty } => is_represented(*ty) && is_evaluable(arg),
+        Node::Constant { ty, .. } | Node::Column { ty, .. } | Node::Given { ty } => {
+            is_represented(*ty)
+        }
+        Node::Output { arg, ty } | Node::Input { arg, ty } | Node::Relabel { arg, ty } => {
+            is_represented(*ty) && is_evaluable(arg)
+        }
+        Node::Sizing {
+            arg,
+            modifier,
+            ty,
+            ..
+        } => { is_sized(*modifier, ty.rep) && is_represented(*ty) && is_evaluable(arg) }
         Node::Call { callee, args, ty } => {
             has_body(callee.body) && is_represented(*ty) && all_evaluable(args.as_slice())
         }
-        Node::Given { .. }
-        | Node::Output { .. }
-        | Node::Input { .. }
-        | Node::Elements { .. }
-        | Node::Sizing { .. }
-        | Node::Domain { .. }
+        Node::Domain { arg, check, ty, .. } => {
+            let is_argument = is_represented(*ty) && is_evaluable(arg);
+            match check {
+                Some(check) => is_argument && is_evaluable(check),
+                None => is_argument,
+            }
+        }
+        Node::Elements { .. }
         | Node::And { .. }
         | Node::Or { .. }
         | Node::Not { .. }

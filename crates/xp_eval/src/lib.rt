@@ -5,7 +5,10 @@
 
 mod columns;
 mod constants;
+mod domains;
 mod evaluable;
+mod sizes;
+mod texts;
 mod walk;
 
 pub use constants::{early, early_all};

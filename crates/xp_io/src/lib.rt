@@ -13,7 +13,7 @@ mod worked;
 mod writing;
 
 pub use laws::whole_numbers_are_the_lexers;
-pub use reading::{InFault, read_value};
+pub use reading::{InFault, read_text, read_value};
 pub use representations::{element_rep, rep_of};
 pub use worked::worked_forms;
-pub use writing::{write_text, write_value};
+pub use writing::{text_of, write_text, write_value};

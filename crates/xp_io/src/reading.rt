@@ -77,6 +77,19 @@ fn by_form(alloc: Global, rep: Rep, text: &str) -> Result<Value, InFault>
     }
 }
 
+/// The value that the text is where values are kept so, which is never null.
+pub fn read_text(alloc: Global, rep: Rep, text: &[u8]) -> Result<Value, InFault>
+    ensures value { Reads (input (plain rep) text.now) result }
+    ensures fits { built rep ≡ rep → IfOk result (λ v. is_of (plain rep) v ≡ true) }
+    ensures not_null { IfOk result (λ v. is_null v ≡ false) }
+{
+    let text = clean(text)?;
+    if text.len() > VALUE_LIMIT as usize {
+        return Err(InFault::Bad(EvalError::Limit));
+    }
+    by_form(alloc, rep, text)
+}
+
 /// The value of the type that the text is, which is never null.
 pub fn read_value(alloc: Global, c: &Catalog, t: TypeNo, text: &[u8]) -> Result<Value, InFault>
     requires { t.0 < length c.now.types }
@@ -84,9 +97,5 @@ pub fn read_value(alloc: Global, c: &Catalog, t: TypeNo, text: &[u8]) -> Result<
     ensures fits { IfOk result (λ v. is_of (shape_of c.now t) v ≡ true) }
     ensures not_null { IfOk result (λ v. is_null v ≡ false) }
 {
-    let text = clean(text)?;
-    if text.len() > VALUE_LIMIT as usize {
-        return Err(InFault::Bad(EvalError::Limit));
-    }
-    by_form(alloc, rep_of(c, t), text)
+    read_text(alloc, rep_of(c, t), text)
 }

@@ -1,6 +1,5 @@
 //! From a value to its text.
-ghost use Rattle.std.specs.Prelude.{◌≡◌, ◌<◌, ◌++◌, OnErr, OnOk, false, length, true};
-ghost use Rattle.std.specs.Fmt.{signed_decimal};
+ghost use Rattle.std.specs.Prelude.{◌≡◌, ◌<◌, ◌++◌, IfOk, OnErr, OnOk, false, length, true};
 ghost use Rattle.xp_io.specs.Forms.{ReadsBack, output};
 ghost use Rattle.xp_io.specs.inner.Chars.{IsChars};
 ghost use Rattle.xp_value.specs.Null.{is_null};
@@ -9,17 +8,28 @@ ghost use Rattle.xp_value.specs.Representation.{is_of};
 
 use crate::booleans::output_bool;
 use itoa::Buffer;
-use xp_base::{Byts, Memory, TypeNo};
+use std::alloc::Global;
+use xp_base::{Byts, Memory, Txt, TypeNo};
 use xp_catalog::Catalog;
 use xp_value::Value;
 
-/// Adds the decimal digits of a number, behind its sign.
-fn append_integer(number: i64, out: &mut Byts) -> Result<(), Memory>
-    ensures ok { OnOk result (out.new ≡ out.old ++ signed_decimal number) }
-    ensures err { OnErr result (out.new ≡ out.old) }
+/// The text of a value that isn't null; a number's digits are put into the buffer.
+fn text_in<'a>(v: &'a Value, digits: &'a mut Buffer) -> &'a str
+    ensures { result.now ≡ output v.now }
 {
-    let mut digits = Buffer::new();
-    out.append(digits.format(number).as_bytes())
+    match v {
+        Value::Bool(truth) => output_bool(*truth),
+        Value::Int(number) => digits.format(*number),
+        Value::Text(text) | Value::Pad(text) | Value::Opaque(text) => text.as_str(),
+        _ => "",
+    }
+}
+
+/// The text of a value that isn't null.
+pub fn text_of(alloc: Global, v: &Value) -> Result<Txt, Memory>
+    ensures { IfOk result (λ text. text ≡ output v.now) }
+{
+    Txt::from_str(alloc, text_in(v, &mut Buffer::new()))
 }
 
 /// Adds the text of a value that isn't null.
@@ -27,14 +37,7 @@ pub fn write_text(v: &Value, out: &mut Byts) -> Result<(), Memory>
     ensures ok { OnOk result (out.new ≡ out.old ++ output v.now) }
     ensures err { OnErr result (out.new ≡ out.old) }
 {
-    match v {
-        Value::Bool(truth) => out.append(output_bool(*truth).as_bytes()),
-        Value::Int(number) => append_integer(*number, out),
-        Value::Text(text) | Value::Pad(text) | Value::Opaque(text) => {
-            out.append(text.as_str().as_bytes())
-        }
-        _ => Ok(()),
-    }
+    out.append(text_in(v, &mut Buffer::new()).as_bytes())
 }
 
 /// A law: what a value has of texts is UTF-8.

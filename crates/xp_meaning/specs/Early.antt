@@ -1,5 +1,5 @@
 -- The parts of a tree that are evaluated before any row is looked at, in order (manual 4.2.14; which parts is this project's own).
-use Rattle.std.specs.Prelude.{◌≡◌, Bool, ◌&&◌, not, List, [], ◌∷◌, ◌++◌, Option, Some, None, Result, Ok, Err, if◌then◌else◌}
+use Rattle.std.specs.Prelude.{Bool, ◌&&◌, not, List, [], ◌∷◌, ◌++◌, Option, Some, None, Ok, Err, if◌then◌else◌}
 use Rattle.xp_base.specs.declared.codes.EvalError.{EvalError}
 use Rattle.xp_value.specs.Null.{is_null}
 use Rattle.xp_value.specs.declared.value.Value.{Value}

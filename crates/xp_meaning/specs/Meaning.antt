@@ -1,12 +1,11 @@
 -- What a tree gives at a row, from left to right (manual 4.2.14, 9.1, 9.2, 9.18; the order is this project's own).
-use Rattle.std.specs.Prelude.{ℕ, Bool, true, false, not, List, [], ◌∷◌, Result, Ok, Err, slice_get, unwrap_or, if◌then◌else◌}
+use Rattle.std.specs.Prelude.{List, [], Result, Ok, slice_get, unwrap_or, if◌then◌else◌}
 use Rattle.xp_base.specs.FromLeft.{and_then, joined}
 use Rattle.xp_base.specs.declared.codes.EvalError.{EvalError}
-use Rattle.xp_value.specs.Order.{value_order}
 use Rattle.xp_value.specs.Null.{is_null}
 use Rattle.xp_value.specs.declared.value.Value.{Value}
 use Rattle.xp_value.specs.declared.value.Value.TheVariants as value
-use Rattle.xp_tree.specs.Term.{Leaf, Term, Terms, Arms, constant, column, given, output, input, relabel, elements, sizing, negation, is_null as null_test, is_true as true_test, is_false as false_test, is_unknown as unknown_test, conjunction, disjunction, null_if, distinct, subscript, call, coalesce, greatest, least, array, leaf, one, two, many, case, domain, checked, none, more, no_arm, arm, type_of}
+use Rattle.xp_tree.specs.Term.{Leaf, Term, Terms, Arms, constant, column, given, output, input, relabel, elements, sizing, negation, is_null as null_test, is_true as true_test, is_false as false_test, is_unknown as unknown_test, conjunction, disjunction, null_if, distinct, subscript, call, coalesce, greatest, least, array, leaf, one, two, many, case, domain, checked, none, more, no_arm, arm}
 use Rattle.xp_tree.specs.Typed.{shape_of}
 use Rattle.xp_meaning.specs.Nodes.{array_of, call_of, characters, checked_by, distinct_of, elements_converted, greatest_of, kept_not_null, least_of, null_if_of, output_of, relabelled, sized, subscripted, truth, unless_null}
 use Rattle.xp_meaning.specs.Primitives.{Primitives}
@@ -27,7 +26,7 @@ module _ (p : Primitives) (row : List Value) where
     outcome v (one input a ty) = and_then (outcome v a) (unless_null (λ x. p.read (shape_of ty) (characters x)))
     outcome v (one relabel a ty) = and_then (outcome v a) (λ x. Ok (relabelled ty.rep x))
     outcome v (one (elements way) a ty) = and_then (outcome v a) (unless_null (elements_converted p way ty))
-    outcome v (one (sizing m cut) a ty) = and_then (outcome v a) (unless_null (sized p m cut))
+    outcome v (one (sizing m cut) a ty) = and_then (outcome v a) (unless_null (sized p m cut ty))
     outcome v (one negation a ty) = and_then (outcome v a) (λ x. Ok (not_of x))
     outcome v (one null_test a ty) = and_then (outcome v a) (λ x. truth (is_null x))
     outcome v (one true_test a ty) = and_then (outcome v a) (λ x. truth (is_true x))

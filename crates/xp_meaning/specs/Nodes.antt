@@ -1,5 +1,5 @@
 -- The last step of each node, over the values of its parts (manual 4.2, 9.2, 9.18, 10.4).
-use Rattle.std.specs.Prelude.{ℕ, suc, pos, List, [], ◌∷◌, Bool, true, false, ◌&&◌, not, Option, Some, None, Result, Ok, Err, slice_get, unwrap_or, if◌then◌else◌, fold}
+use Rattle.std.specs.Prelude.{ℕ, suc, pos, List, [], ◌∷◌, Bool, true, ◌&&◌, not, Option, Some, None, Ok, Err, slice_get, unwrap_or, if◌then◌else◌, fold}
 use Rattle.std.specs.declared.cmp.Ordering.{Ordering}
 use Rattle.std.specs.Ordering.{is_gt, is_lt}
 use Rattle.xp_base.specs.FromLeft.{and_then, each}
@@ -19,7 +19,7 @@ use Rattle.xp_tree.specs.declared.parts.Modifier.{Modifier}
 use Rattle.xp_tree.specs.declared.parts.NodeType.{NodeType}
 use Rattle.xp_tree.specs.declared.parts.Way.{Way}
 use Rattle.xp_tree.specs.declared.parts.Way.TheVariants.{ByBody, ByOutput, ByInput, ByRelabel}
-use Rattle.xp_tree.specs.Typed.{shape_of}
+use Rattle.xp_tree.specs.Rests.{is_same_rep}
 use Rattle.xp_meaning.specs.Primitives.{Primitives}
 use Rattle.xp_meaning.specs.Truth.{Outcome, has_null, is_false, is_true}
 
@@ -90,13 +90,9 @@ converted p ByRelabel ty v = Ok (relabelled ty.element v)
 abbrev pub elements_converted : Primitives → Way → NodeType → Value → Outcome
 elements_converted p way ty = over_elements (unless_null (converted p way ty))
 
--- an array is sized element by element
-abbrev pub sized_by : Option (List Value) → Primitives → Modifier → Bool → Value → Outcome
-sized_by None p m cut v = and_then (p.size m cut v) limited
-sized_by (Some elements) p m cut v = over_elements (unless_null (p.size m cut)) v
-
-abbrev pub sized : Primitives → Modifier → Bool → Value → Outcome
-sized p m cut v = sized_by (elements_of v) p m cut v
+-- of an array type each element is sized
+abbrev pub sized : Primitives → Modifier → Bool → NodeType → Value → Outcome
+sized p m cut ty v = if is_same_rep ty.rep rep.Arr then over_elements (unless_null (p.size m cut)) v else and_then (p.size m cut v) limited
 
 -- ---- domains
 

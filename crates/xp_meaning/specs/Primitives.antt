@@ -1,7 +1,6 @@
 -- What the meaning of trees rests on: bodies, text forms, and the sizing of values.
 use Rattle.std.specs.Prelude.{ℕ, List, Bool}
 use Rattle.xp_base.specs.declared.numbers.BodyNo.{BodyNo}
-use Rattle.xp_value.specs.declared.value.Rep.{Rep}
 use Rattle.xp_value.specs.declared.value.Value.{Value}
 use Rattle.xp_value.specs.Representation.{Shape}
 use Rattle.xp_tree.specs.declared.parts.Modifier.{Modifier}

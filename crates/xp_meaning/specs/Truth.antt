@@ -1,5 +1,5 @@
 -- Three-valued logic: a truth value is true, false or null (manual 9.1, 9.2).
-use Rattle.std.specs.Prelude.{Bool, true, false, not, ◌||◌, List, [], ◌∷◌, Result, if◌then◌else◌}
+use Rattle.std.specs.Prelude.{Bool, false, not, ◌||◌, List, [], ◌∷◌, Result, if◌then◌else◌}
 use Rattle.xp_base.specs.declared.codes.EvalError.{EvalError}
 use Rattle.xp_value.specs.Null.{is_null}
 use Rattle.xp_value.specs.declared.value.Value.{Value}
