@@ -19,11 +19,11 @@ use Rattle.xp_call.specs.Calls.{Calls, answered}
 use Rattle.xp_call.specs.declared.fault.CallFault.{CallFault}
 use Rattle.xp_call.specs.declared.fault.CallFault.TheVariants as fault
 
-answered_ok : {T : Type 0} (o : Result T EvalError) (v : T) → answered o ≡ Ok v → o ≡ Ok v
+pub answered_ok : {T : Type 0} (o : Result T EvalError) (v : T) → answered o ≡ Ok v → o ≡ Ok v
 answered_ok (Ok w) v h = cc
 answered_ok (Err e) v h = absurd cc
 
-answered_err : {T : Type 0} (o : Result T EvalError) (e : EvalError) → answered o ≡ Err (fault.Raised e) → o ≡ Err e
+pub answered_err : {T : Type 0} (o : Result T EvalError) (e : EvalError) → answered o ≡ Err (fault.Raised e) → o ≡ Err e
 answered_err (Ok w) e h = absurd cc
 answered_err (Err d) e h = cc
 

@@ -1,4 +1,5 @@
 pub mod Called
 pub mod Lengths
+pub mod Permitted
 pub mod Reading
 pub mod Rest

@@ -15,6 +15,7 @@ use Rattle.xp_tree.specs.inner.Heights.{height, height_all}
 use Rattle.xp_meaning.specs.Early.{at_once, early, early_all, early_arms, early_first, first_error, settles, whole_or}
 use Rattle.xp_meaning.specs.Evaluable.{all_evaluable, is_evaluable, is_length_built}
 use Rattle.xp_meaning.specs.Truth.{Outcome, is_false, is_true}
+use Rattle.xp_meaning.proofs.Laws.{mapped}
 use Rattle.xp_eval.specs.Real.{early_error, first_raised, real}
 
 pub height_at : (ts : List Term) (i : ℕ) (d : Term) → i < length ts → height (get_or ts i d) ≤ height_all (terms ts)
@@ -39,10 +40,6 @@ first_step (Err e) xs ys h = refl
 first_behind : (xs ys : List Outcome) → first_error (xs ++ ys) ≡ or_later (first_error xs) (first_error ys)
 first_behind [] ys = refl
 first_behind (x ∷ xs) ys = first_step x xs ys (first_behind xs ys)
-
-mapped : (f : Term → Outcome) (ts us : List Term) → map f (ts ++ us) ≡ map f ts ++ map f us
-mapped f [] us = refl
-mapped f (t ∷ ts) us = ap (λ rest. f t ∷ rest) (mapped f ts us)
 
 raised_behind : (ts us : List Term) → first_raised (ts ++ us) ≡ or_later (first_raised ts) (first_raised us)
 raised_behind ts us = ap first_error (mapped (at_once real) ts us) ∙ first_behind (map (at_once real) ts) (map (at_once real) us)

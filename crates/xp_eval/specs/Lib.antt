@@ -1,2 +1,3 @@
+pub mod Permitted
 pub mod Real
 pub mod Sizes

@@ -6,6 +6,7 @@ ghost use Rattle.xp_meaning.specs.Evaluable.{all_evaluable, has_body, is_evaluab
 ghost use Rattle.xp_meaning.specs.Meaning.{outcome, outcomes};
 ghost use Rattle.xp_meaning.specs.Nodes.{call_of};
 ghost use Rattle.xp_tree.specs.Term.{terms};
+ghost use Rattle.xp_eval.specs.Permitted.{ArePermitted, IsPermitted};
 ghost use Rattle.xp_eval.specs.Real.{real};
 
 use crate::columns::{column, has_null, relabel};
@@ -130,18 +131,22 @@ fn eval_each(alloc: Global, trees: &[Tree], given: &Value, row: &[Value]) -> Res
 }
 
 /// What the tree gives at the row, whose values are those of its columns: its value, or the error
-/// that it raises.
+/// that it raises. Of the outcomes that manual 4.2.14 permits it is the one from left to right.
+#[tactic(auto, using(crate::proofs::Permitted::is_permitted))]
 pub fn eval(alloc: Global, t: &Tree, row: &[Value]) -> Result<Value, CallFault>
     requires { is_evaluable is_built t.now ≡ true }
-    ensures { Calls (outcome real row.now Value.Null t.now) result }
+    ensures from_left { Calls (outcome real row.now Value.Null t.now) result }
+    ensures permitted { IsPermitted row.now t.now result }
 {
     eval_given(alloc, t, &Value::Null, row)
 }
 
 /// What the trees give, up to the first that raises.
+#[tactic(auto, using(crate::proofs::Permitted::are_permitted))]
 pub fn eval_all(alloc: Global, trees: &[Tree], row: &[Value]) -> Result<Row, CallFault>
     requires { all_evaluable is_built (terms trees.now) ≡ true }
-    ensures { Calls (outcomes real row.now Value.Null (terms trees.now)) result }
+    ensures from_left { Calls (outcomes real row.now Value.Null (terms trees.now)) result }
+    ensures permitted { ArePermitted row.now (terms trees.now) result }
 {
     eval_each(alloc, trees, &Value::Null, row)
 }

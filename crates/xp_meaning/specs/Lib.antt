@@ -2,5 +2,9 @@ pub mod Early
 pub mod Evaluable
 pub mod Meaning
 pub mod Nodes
+pub mod Permits
+pub mod Permitted
 pub mod Primitives
+pub mod Sets
 pub mod Truth
+pub mod Worked

@@ -5,11 +5,10 @@ use Rattle.xp_base.specs.declared.codes.EvalError.{EvalError}
 use Rattle.xp_value.specs.Null.{is_null}
 use Rattle.xp_value.specs.declared.value.Value.{Value}
 use Rattle.xp_value.specs.declared.value.Value.TheVariants as value
-use Rattle.xp_tree.specs.Term.{Leaf, Term, Terms, Arms, constant, column, given, output, input, relabel, elements, sizing, negation, is_null as null_test, is_true as true_test, is_false as false_test, is_unknown as unknown_test, conjunction, disjunction, null_if, distinct, subscript, call, coalesce, greatest, least, array, leaf, one, two, many, case, domain, checked, none, more, no_arm, arm}
-use Rattle.xp_tree.specs.Typed.{shape_of}
-use Rattle.xp_meaning.specs.Nodes.{array_of, call_of, characters, checked_by, distinct_of, elements_converted, greatest_of, kept_not_null, least_of, null_if_of, output_of, relabelled, sized, subscripted, truth, unless_null}
+use Rattle.xp_tree.specs.Term.{Leaf, Term, Terms, Arms, constant, column, given, conjunction, disjunction, null_if, distinct, subscript, call, coalesce, greatest, least, array, leaf, one, two, many, case, domain, checked, none, more, no_arm, arm}
+use Rattle.xp_meaning.specs.Nodes.{array_of, call_of, checked_by, distinct_of, greatest_of, kept_not_null, least_of, null_if_of, one_step, subscripted}
 use Rattle.xp_meaning.specs.Primitives.{Primitives}
-use Rattle.xp_meaning.specs.Truth.{Outcome, and_of, is_false, is_true, not_of, or_of}
+use Rattle.xp_meaning.specs.Truth.{Outcome, and_of, is_false, is_true, or_of}
 
 -- a column's value; VALUE is v
 abbrev pub leaf_outcome : List Value → Value → Leaf → Outcome
@@ -22,16 +21,7 @@ module _ (p : Primitives) (row : List Value) where
     -- an error of a part that is evaluated is the outcome
     pub outcome : Value → Term → Outcome
     outcome v (leaf l ty) = leaf_outcome row v l
-    outcome v (one output a ty) = and_then (outcome v a) (unless_null (output_of p ty.rep))
-    outcome v (one input a ty) = and_then (outcome v a) (unless_null (λ x. p.read (shape_of ty) (characters x)))
-    outcome v (one relabel a ty) = and_then (outcome v a) (λ x. Ok (relabelled ty.rep x))
-    outcome v (one (elements way) a ty) = and_then (outcome v a) (unless_null (elements_converted p way ty))
-    outcome v (one (sizing m cut) a ty) = and_then (outcome v a) (unless_null (sized p m cut ty))
-    outcome v (one negation a ty) = and_then (outcome v a) (λ x. Ok (not_of x))
-    outcome v (one null_test a ty) = and_then (outcome v a) (λ x. truth (is_null x))
-    outcome v (one true_test a ty) = and_then (outcome v a) (λ x. truth (is_true x))
-    outcome v (one false_test a ty) = and_then (outcome v a) (λ x. truth (is_false x))
-    outcome v (one unknown_test a ty) = and_then (outcome v a) (λ x. truth (is_null x))
+    outcome v (one step a ty) = and_then (outcome v a) (one_step p step ty)
     -- AND stops at false, and OR at true
     outcome v (two conjunction a b ty) = and_then (outcome v a) (λ x. if is_false x then Ok x else and_then (outcome v b) (λ y. Ok (and_of x y)))
     outcome v (two disjunction a b ty) = and_then (outcome v a) (λ x. if is_true x then Ok x else and_then (outcome v b) (λ y. Ok (or_of x y)))

@@ -20,8 +20,10 @@ use Rattle.xp_tree.specs.declared.parts.NodeType.{NodeType}
 use Rattle.xp_tree.specs.declared.parts.Way.{Way}
 use Rattle.xp_tree.specs.declared.parts.Way.TheVariants.{ByBody, ByOutput, ByInput, ByRelabel}
 use Rattle.xp_tree.specs.Rests.{is_same_rep}
+use Rattle.xp_tree.specs.Term.{One, output, input, relabel, elements as by_elements, sizing, negation, is_null as null_test, is_true as true_test, is_false as false_test, is_unknown as unknown_test}
+use Rattle.xp_tree.specs.Typed.{shape_of}
 use Rattle.xp_meaning.specs.Primitives.{Primitives}
-use Rattle.xp_meaning.specs.Truth.{Outcome, has_null, is_false, is_true}
+use Rattle.xp_meaning.specs.Truth.{Outcome, has_null, is_false, is_true, not_of}
 
 -- a value past the limits on values is never given
 abbrev pub limited : Value → Outcome
@@ -93,6 +95,20 @@ elements_converted p way ty = over_elements (unless_null (converted p way ty))
 -- of an array type each element is sized
 abbrev pub sized : Primitives → Modifier → Bool → NodeType → Value → Outcome
 sized p m cut ty v = if is_same_rep ty.rep rep.Arr then over_elements (unless_null (p.size m cut)) v else and_then (p.size m cut v) limited
+
+-- ---- nodes over one tree
+
+abbrev pub one_step : Primitives → One → NodeType → Value → Outcome
+one_step p output ty = unless_null (output_of p ty.rep)
+one_step p input ty = unless_null (λ x. p.read (shape_of ty) (characters x))
+one_step p relabel ty = λ x. Ok (relabelled ty.rep x)
+one_step p (by_elements way) ty = unless_null (elements_converted p way ty)
+one_step p (sizing m cut) ty = unless_null (sized p m cut ty)
+one_step p negation ty = λ x. Ok (not_of x)
+one_step p null_test ty = λ x. truth (is_null x)
+one_step p true_test ty = λ x. truth (is_true x)
+one_step p false_test ty = λ x. truth (is_false x)
+one_step p unknown_test ty = λ x. truth (is_null x)
 
 -- ---- domains
 

@@ -1,0 +1,4 @@
+pub mod Examples
+pub mod Itself
+pub mod Laws
+pub mod Only
