@@ -1,0 +1,2 @@
+pub mod Strpos
+pub mod Escapes

@@ -1,0 +1,4 @@
+pub mod Faults
+pub mod Characters
+pub mod Places
+pub mod Search

@@ -1,0 +1,4 @@
+pub mod Made
+pub mod Parts
+pub mod Sets
+pub mod Fields
