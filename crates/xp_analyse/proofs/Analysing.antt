@@ -7,13 +7,14 @@ use Rattle.xp_catalog.specs.Contents.{Contents}
 use Rattle.xp_grammar.specs.declared.ast.Ast.{Ast}
 use Rattle.xp_grammar.specs.declared.statement.Item.{Item}
 use Rattle.xp_grammar.specs.declared.statement.Statement.{Statement}
-use Rattle.xp_grammar.specs.declared.statement.Statement.TheVariants.{Select, Describe}
+use Rattle.xp_grammar.specs.declared.statement.Statement.TheVariants.{Select, Store, Describe}
+use Rattle.xp_grammar.specs.declared.types.TypeWords.{TypeWords}
 use Rattle.xp_named.specs.declared.refusal.Refusal.{Refusal}
 use Rattle.xp_tree.specs.declared.checks.DomainCheck.{DomainCheck}
 use Rattle.xp_resolve.specs.Made.{is_memory}
 use Rattle.xp_resolve.specs.Scene.{Scene}
 use Rattle.xp_analyse.specs.declared.typed.Typed.{Typed}
-use Rattle.xp_analyse.specs.Statements.{analysed, if_built, scene_of}
+use Rattle.xp_analyse.specs.Statements.{analysed, if_built, scene_of, stored_if_built}
 
 pub selects : (c : Contents) (checks : List DomainCheck) (columns : List HeaderColumn) (s : Statement) (at : Span) (items : List Item) (scene : Scene) (r : Result Typed Refusal)
     → s ≡ Select at items → scene ≡ scene_of c checks columns s
@@ -29,4 +30,12 @@ pub describes : (c : Contents) (checks : List DomainCheck) (columns : List Heade
 unfolding analysed
 describes c checks columns s at expressions scene r is place e =
     let own : scene ≡ scene_of c checks columns (Describe at expressions) = rw is at place in
+    rw is (rw own at e)
+
+pub stores : (c : Contents) (checks : List DomainCheck) (columns : List HeaderColumn) (s : Statement) (at : Span) (words : TypeWords) (source : Ast) (scene : Scene) (r : Result Typed Refusal)
+    → s ≡ Store at words source → scene ≡ scene_of c checks columns s
+    → OrMemory is_memory (stored_if_built scene words source) r → OrMemory is_memory (analysed c checks columns s) r
+unfolding analysed
+stores c checks columns s at words source scene r is place e =
+    let own : scene ≡ scene_of c checks columns (Store at words source) = rw is at place in
     rw is (rw own at e)

@@ -3,3 +3,7 @@ pub mod Settling
 pub mod Readying
 pub mod Forms
 pub mod Analysing
+pub mod BaseTypes
+pub mod Truths
+pub mod Preparing
+pub mod CheckTexts

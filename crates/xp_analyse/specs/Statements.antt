@@ -6,13 +6,15 @@ use Rattle.xp_base.specs.declared.codes.Code.TheVariants as code
 use Rattle.xp_base.specs.declared.numbers.TypeNo.{TypeNo}
 use Rattle.xp_call.specs.Calls.{is_built}
 use Rattle.xp_catalog.specs.declared.header.HeaderColumn.{HeaderColumn}
-use Rattle.xp_catalog.specs.declared.rows.Context.TheVariants.{Implicit}
+use Rattle.xp_catalog.specs.declared.rows.Context.TheVariants.{Implicit, Assignment}
 use Rattle.xp_catalog.specs.Contents.{Contents}
 use Rattle.xp_grammar.specs.declared.ast.Ast.{Ast}
 use Rattle.xp_grammar.specs.declared.statement.Item.{Item}
 use Rattle.xp_grammar.specs.declared.statement.Statement.{Statement}
 use Rattle.xp_grammar.specs.declared.statement.Statement.TheVariants.{Select, UnionAll, Values, Store, Describe, Explain, ExplainAnalyze}
+use Rattle.xp_grammar.specs.declared.types.TypeWords.{TypeWords}
 use Rattle.xp_meaning.specs.Evaluable.{is_evaluable}
+use Rattle.xp_named.specs.Named.{named_type}
 use Rattle.xp_named.specs.declared.refusal.Refusal.{Refusal}
 use Rattle.xp_tree.specs.declared.checks.DomainCheck.{DomainCheck}
 use Rattle.xp_tree.specs.Term.{Term, type_of}
@@ -20,6 +22,7 @@ use Rattle.xp_types.specs.Readers.{is_known}
 use Rattle.xp_resolve.specs.declared.conversions.Converted.{Converted}
 use Rattle.xp_resolve.specs.declared.conversions.ConvertedAll.{ConvertedAll}
 use Rattle.xp_resolve.specs.declared.made.Gathered.{Gathered}
+use Rattle.xp_resolve.specs.declared.made.Made.{Made}
 use Rattle.xp_resolve.specs.declared.made.Part.{Part}
 use Rattle.xp_resolve.specs.declared.made.Progress.{Progress}
 use Rattle.xp_resolve.specs.declared.typed.Use.{Use}
@@ -41,12 +44,6 @@ place_of (Store at words source) = at.start
 place_of (Describe at expressions) = at.start
 place_of (Explain at expression) = at.start
 place_of (ExplainAnalyze at expression) = at.start
-
--- the expressions of a statement that is built
-abbrev pub expressions_of : Statement → Option (List Ast)
-expressions_of (Select at items) = Some (map (λ (item : Item). item.expr) items)
-expressions_of (Describe at expressions) = Some expressions
-expressions_of _ = None
 
 -- whether the trees are to be evaluated
 abbrev pub is_evaluated : Statement → Bool
@@ -109,9 +106,34 @@ abbrev pub if_built : Scene → Bool → List Ast → Result Typed Refusal
 if_built scene evaluated expressions =
     cond (built.are_built expressions) (analysed_all scene evaluated expressions) (refused code.NotBuilt scene.start)
 
+-- ---- STORE: the source, then the type, then the value as one that is assigned to it (manual 10.4)
+
+-- literals and NULL are read as the type; no path to it is refused where the type begins
+abbrev pub assigned : Scene → TypeWords → ℕ → Part → Result Converted Refusal
+assigned scene words nodes part = and_then (named_type scene.c words) (λ named. converted scene words.at.start nodes part named Assignment)
+
+abbrev pub stored_as : Ast → List Use → Term → Result Typed Refusal
+stored_as source uses t = cond (is_evaluable is_built t) (Ok (typed_of uses (t ∷ []))) (refused code.NoBody (first_of source))
+
+abbrev pub stored_from : Scene → TypeWords → Ast → Made → Result Typed Refusal
+stored_from scene words source made = and_then (assigned scene words made.progress.nodes made.part) (λ one. stored_as source made.progress.uses one.tree)
+
+abbrev pub stored : Scene → TypeWords → Ast → Result Typed Refusal
+stored scene words source = and_then (resolved scene source nothing_yet) (stored_from scene words source)
+
+abbrev pub stored_if_built : Scene → TypeWords → Ast → Result Typed Refusal
+stored_if_built scene words source = cond (built.is_built source) (stored scene words source) (refused code.NotBuilt scene.start)
+
+-- ---- by the kind of statement
+
+abbrev pub analysed_in : Scene → Statement → Result Typed Refusal
+analysed_in scene (Select at items) = if_built scene true (map (λ (item : Item). item.expr) items)
+analysed_in scene (Store at words source) = stored_if_built scene words source
+analysed_in scene (Describe at expressions) = if_built scene false expressions
+analysed_in scene _ = refused code.NotBuilt scene.start
+
 abbrev pub scene_of : Contents → List DomainCheck → List HeaderColumn → Statement → Scene
-scene_of c checks columns s = record { c = c; checks = checks; columns = columns; start = place_of s }
+scene_of c checks columns s = record { c = c; checks = checks; columns = columns; value = None; start = place_of s }
 
 unfoldable pub analysed : Contents → List DomainCheck → List HeaderColumn → Statement → Result Typed Refusal
-analysed c checks columns s =
-    option_map_or (if_built (scene_of c checks columns s) (is_evaluated s)) (expressions_of s) (refused code.NotBuilt (place_of s))
+analysed c checks columns s = analysed_in (scene_of c checks columns s) s

@@ -14,6 +14,7 @@ ghost use Rattle.xp_resolve.specs.Literals.{number, text_literal};
 ghost use Rattle.xp_resolve.specs.Made.{is_memory};
 ghost use Rattle.xp_resolve.specs.Operators.{operated};
 ghost use Rattle.xp_analyse.specs.Expressions as spec;
+ghost use Rattle.xp_analyse.specs.Statements.{nothing_yet};
 
 use sqlite_items::Items;
 use std::alloc::Global;
@@ -23,6 +24,16 @@ use xp_resolve::{
     Gathered, Made, Order, Parts, Progress, Refusal, Scene, called, number, operated, push,
     text_literal,
 };
+
+/// Nothing is made yet.
+pub fn nothing_yet(alloc: Global) -> Progress
+    ensures { result ≡ nothing_yet }
+{
+    Progress {
+        nodes: 0,
+        uses: Items::new(alloc),
+    }
+}
 
 /// No operands yet.
 pub fn begun(alloc: Global, progress: Progress) -> Gathered

@@ -18,16 +18,16 @@ ghost use Rattle.xp_analyse.specs.Built as built;
 
 use crate::built::{are_built, is_built};
 use crate::expressions::{with_operand, with_operands};
-use crate::operands::begun;
+use crate::operands::{begun, nothing_yet};
 use crate::ready::{first_unready, typed_of};
 use crate::settle::settled;
+use crate::store::store;
 use crate::typed::Typed;
-use sqlite_items::Items;
 use std::alloc::Global;
 use xp_base::Code;
 use xp_catalog::{Catalog, Header};
 use xp_grammar::{Ast, Item, Statement};
-use xp_resolve::{Gathered, Progress, Refusal, Scene, refused};
+use xp_resolve::{Gathered, Refusal, Scene, refused};
 use xp_tree::Checks;
 
 /// The first byte of the statement's first token.
@@ -44,19 +44,6 @@ fn place_of(s: &Statement) -> u64
         | Statement::ExplainAnalyze { at, .. } => at,
     };
     u64::from(at.start)
-}
-
-/// No operands yet, of no statement before.
-fn nothing_yet(alloc: Global) -> Gathered
-    ensures { result ≡ begun nothing_yet }
-{
-    begun(
-        alloc,
-        Progress {
-            nodes: 0,
-            uses: Items::new(alloc),
-        },
-    )
 }
 
 #[tactic(auto, using(xp_base::proofs::Lists::drop_one, xp_base::proofs::Lists::drop_none))]
@@ -78,7 +65,7 @@ fn with_items(alloc: Global, scene: &Scene<'_>, items: &[Item]) -> Result<Gather
     ensures sources { IfOk result (λ g. AreSources scene.now.c g.parts) }
     ensures count { IfOk result (λ g. length g.parts ≡ length items.now) }
 {
-    let mut all = Ok(nothing_yet(alloc));
+    let mut all = Ok(begun(alloc, nothing_yet(alloc)));
     for item in items {
         all = with_operand(alloc, scene, all, &item.expr);
     }
@@ -117,7 +104,7 @@ fn described(alloc: Global, scene: &Scene<'_>, exprs: &[Ast]) -> Result<Typed, R
     requires { IsScene scene.now }
     ensures { OrMemory is_memory (analysed_all scene.now false exprs.now) result }
 {
-    let made = with_operands(alloc, scene, Ok(nothing_yet(alloc)), exprs)?;
+    let made = with_operands(alloc, scene, Ok(begun(alloc, nothing_yet(alloc))), exprs)?;
     let all = settled(alloc, scene, made.progress.nodes, made.parts)?;
     Ok(typed_of(alloc, made.progress.uses, all.trees)?)
 }
@@ -154,10 +141,10 @@ pub fn analyse(
     let scene = Scene::new(c, k, h, place_of(s));
     match s {
         Statement::Select { items, .. } => select(alloc, &scene, items.as_slice()),
+        Statement::Store { target, source, .. } => store(alloc, &scene, target, source),
         Statement::Describe { exprs, .. } => describe(alloc, &scene, exprs.as_slice()),
         Statement::UnionAll { .. }
         | Statement::Values { .. }
-        | Statement::Store { .. }
         | Statement::Explain { .. }
         | Statement::ExplainAnalyze { .. } => refused(Code::NotBuilt, scene.start()),
     }

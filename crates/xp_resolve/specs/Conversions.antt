@@ -3,10 +3,11 @@ use Rattle.std.specs.Prelude.{ℕ, ◌+◌, ◌-◌, List, [], ◌∷◌, ◌++�
 use Rattle.std.specs.Option.{option_map_or}
 use Rattle.std.specs.Result.{result_map_both}
 use Rattle.xp_base.specs.FromLeft.{and_then}
+use Rattle.xp_base.specs.declared.codes.Code.{Code}
 use Rattle.xp_base.specs.declared.codes.Code.TheVariants as code
 use Rattle.xp_base.specs.declared.numbers.TypeNo.{TypeNo}
 use Rattle.xp_catalog.specs.declared.rows.Context.{Context}
-use Rattle.xp_catalog.specs.declared.rows.Context.TheVariants.{Implicit, Explicit}
+use Rattle.xp_catalog.specs.declared.rows.Context.TheVariants.{Implicit, Assignment, Explicit}
 use Rattle.xp_catalog.specs.Contents.{Contents}
 use Rattle.xp_catalog.specs.Lookups.{type_named}
 use Rattle.xp_types.specs.Readers.{array_of, base, is_array, is_known}
@@ -27,11 +28,16 @@ use Rattle.xp_resolve.specs.Made.{counted, refused}
 use Rattle.xp_resolve.specs.Nodes.{elements_written, written}
 use Rattle.xp_resolve.specs.Scene.{Scene}
 
+-- how a conversion that isn't there is refused: what can't be assigned is a mismatch
+abbrev pub missing : Context → Code
+missing Assignment = code.Mismatch
+missing _ = code.CannotCoerce
+
 -- a conversion that isn't there is refused where it is asked for, a literal that isn't a text of the type at the literal
-abbrev pub refusal_of : ℕ → ℕ → CoerceFault → Refusal
-refusal_of asked_at literal_at (CannotCoerce from to) = refusal.At code.CannotCoerce asked_at
-refusal_of asked_at literal_at (BadLiteral code) = refusal.At code literal_at
-refusal_of asked_at literal_at Memory = refusal.Memory
+abbrev pub refusal_of : Context → ℕ → ℕ → CoerceFault → Refusal
+refusal_of context asked_at literal_at (CannotCoerce from to) = refusal.At (missing context) asked_at
+refusal_of context asked_at literal_at (BadLiteral code) = refusal.At code literal_at
+refusal_of context asked_at literal_at Memory = refusal.Memory
 
 -- a tree takes the place of another among trees of so many nodes
 abbrev pub in_place_of : Scene → ℕ → Term → Term → Result Converted Refusal
@@ -40,7 +46,7 @@ in_place_of scene nodes old new = and_then (counted scene (nodes - size old + si
 -- what is asked for at a place
 abbrev pub converted : Scene → ℕ → ℕ → Part → NamedType → Context → Result Converted Refusal
 converted scene at nodes part named context =
-    and_then (result_map_both (λ a. a) (refusal_of at part.at) (coerced scene.c scene.checks part.tree named.ty named.modifier context)) (in_place_of scene nodes part.tree)
+    and_then (result_map_both (λ a. a) (refusal_of context at part.at) (coerced scene.c scene.checks part.tree named.ty named.modifier context)) (in_place_of scene nodes part.tree)
 
 abbrev pub plainly : TypeNo → NamedType
 plainly type = record { ty = type; modifier = modifier.None }

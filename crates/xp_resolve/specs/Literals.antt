@@ -1,6 +1,7 @@
--- Constants and columns (manual 4.1.2, 4.2.1, 8.14 for NULL).
+-- Constants, columns and VALUE (manual 4.1.2, 4.2.1, 8.14 for NULL, CREATE DOMAIN for VALUE).
 use Rattle.std.specs.Prelude.{ℕ, ◌^◌, List, Bool, true, false, ◌&&◌, cond, codes, length, nat_le, nat_lt, Result, Ok, slice_get}
 use Rattle.std.specs.Option.{option_map_or}
+use Rattle.std.specs.Str.{bytes_eq}
 use Rattle.std.specs.Result.{result_map_both}
 use Rattle.xp_base.specs.FromLeft.{and_then}
 use Rattle.xp_base.specs.declared.codes.Code.TheVariants as code
@@ -16,7 +17,7 @@ use Rattle.xp_catalog.specs.Contents.{Contents}
 use Rattle.xp_catalog.specs.Headers.{column_named}
 use Rattle.xp_catalog.specs.Lookups.{type_named}
 use Rattle.xp_types.specs.Readers.{unknown}
-use Rattle.xp_tree.specs.Term.{Term, column, constant as fixed, leaf}
+use Rattle.xp_tree.specs.Term.{Term, column, constant as fixed, given, leaf}
 use Rattle.xp_named.specs.declared.named.NamedType.{NamedType}
 use Rattle.xp_named.specs.declared.refusal.Refusal.{Refusal}
 use Rattle.xp_coerce.specs.Coerced.{coerced, read_text}
@@ -41,7 +42,7 @@ null_literal scene at progress = finished scene at progress.nodes progress.uses 
 -- a text that is read as a text of the type
 abbrev pub read_as : Scene → ℕ → NamedType → List ℕ → Result Term Refusal
 read_as scene at named text =
-    and_then (literal scene.c at text) (λ t. result_map_both (λ a. a) (refusal_of at at) (coerced scene.c scene.checks t named.ty named.modifier Explicit))
+    and_then (literal scene.c at text) (λ t. result_map_both (λ a. a) (refusal_of Explicit at at) (coerced scene.c scene.checks t named.ty named.modifier Explicit))
 
 -- a type's name before a string: the value that it is a text of
 abbrev pub typed_literal : Scene → ℕ → NamedType → List ℕ → Progress → Result Made Refusal
@@ -49,7 +50,7 @@ typed_literal scene at named text progress = and_then (read_as scene at named te
 
 -- the constant of the type that a text is
 abbrev pub constant_of : Scene → ℕ → TypeNo → List ℕ → Result Term Refusal
-constant_of scene at type text = result_map_both (λ a. a) (refusal_of at at) (read_text scene.c type text)
+constant_of scene at type text = result_map_both (λ a. a) (refusal_of Explicit at at) (read_text scene.c type text)
 
 abbrev pub constant : Scene → ℕ → TypeNo → List ℕ → Progress → Result Made Refusal
 constant scene at type text progress = and_then (constant_of scene at type text) (finished scene at progress.nodes progress.uses)
@@ -82,5 +83,14 @@ abbrev pub column_at : Scene → ℕ → List ℕ → Progress → ℕ → Resul
 column_at scene at name progress place =
     option_map_or (λ (found : HeaderColumn). column_of scene at name progress place found.ty) (slice_get scene.columns place) (refused code.UnknownColumn at)
 
+-- VALUE, which has that type
+abbrev pub value_of : Scene → ℕ → Progress → TypeNo → Result Made Refusal
+value_of scene at progress type = finished scene at progress.nodes progress.uses (leaf given (node_type scene.c type))
+
+-- in a check, under the name that VALUE folds to
+abbrev pub named_value : Scene → ℕ → List ℕ → Progress → Result Made Refusal
+named_value scene at name progress =
+    cond (bytes_eq name (codes "value")) (option_map_or (value_of scene at progress) scene.value (refused code.UnknownColumn at)) (refused code.UnknownColumn at)
+
 abbrev pub named_column : Scene → ℕ → List ℕ → Progress → Result Made Refusal
-named_column scene at name progress = option_map_or (column_at scene at name progress) (column_named scene.columns name) (refused code.UnknownColumn at)
+named_column scene at name progress = option_map_or (column_at scene at name progress) (column_named scene.columns name) (named_value scene at name progress)

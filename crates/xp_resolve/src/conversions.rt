@@ -42,13 +42,23 @@ pub struct ConvertedAll {
     pub nodes: u64,
 }
 
+/// How a conversion that isn't there is refused.
+fn missing(context: Context) -> Code
+    ensures { result ≡ spec.missing context }
+{
+    match context {
+        Context::Assignment => Code::Mismatch,
+        Context::Implicit | Context::Explicit => Code::CannotCoerce,
+    }
+}
+
 /// The refusal of a conversion that is asked for at one place, of a literal at another.
-pub fn refusal_of(asked_at: u64, literal_at: u64, fault: CoerceFault) -> Refusal
-    ensures { result ≡ spec.refusal_of asked_at literal_at fault }
+pub fn refusal_of(context: Context, asked_at: u64, literal_at: u64, fault: CoerceFault) -> Refusal
+    ensures { result ≡ spec.refusal_of context asked_at literal_at fault }
 {
     match fault {
         CoerceFault::CannotCoerce { .. } => Refusal::At {
-            code: Code::CannotCoerce,
+            code: missing(context),
             at: asked_at,
         },
         CoerceFault::BadLiteral { code } => Refusal::At {
@@ -93,7 +103,7 @@ pub fn convert(
     let (c, k) = (scene.catalog(), scene.checks());
     match coerce(alloc, c, k, tree, named.ty, named.modifier, context) {
         Ok(tree) => in_place_of(scene, nodes, before, tree),
-        Err(fault) => Err(refusal_of(at, literal_at, fault)),
+        Err(fault) => Err(refusal_of(context, at, literal_at, fault)),
     }
 }
 

@@ -1,15 +1,15 @@
-//! Constants and columns (manual 4.1.2, 4.2.1).
+//! Constants, columns and VALUE (manual 4.1.2, 4.2.1, CREATE DOMAIN).
 ghost use Rattle.std.specs.Prelude.{◌≡◌, ◌<◌, ◌^◌, IfOk, true};
 ghost use Rattle.xp_base.specs.OrMemory.{OrMemory};
 ghost use Rattle.xp_coerce.specs.Asked.{IsSource};
 ghost use Rattle.xp_named.specs.Named.{IsNamed};
 ghost use Rattle.xp_coerce.specs.Types.{node_type};
-ghost use Rattle.xp_tree.specs.Term.{column, leaf};
+ghost use Rattle.xp_tree.specs.Term.{column, given, leaf};
 ghost use Rattle.xp_types.specs.Readers.{is_known};
 ghost use Rattle.xp_types.specs.Within.{IsType};
 ghost use Rattle.xp_resolve.specs.Literals as spec;
 ghost use Rattle.xp_resolve.specs.Made.{is_memory};
-ghost use Rattle.xp_resolve.specs.inner.Sources.{IsScene};
+ghost use Rattle.xp_resolve.specs.inner.Sources.{IsScene, IsValued};
 
 use crate::conversions::refusal_of;
 use crate::made::{Made, Progress, finished, refused};
@@ -81,7 +81,7 @@ fn read_as(
     let (c, k) = (scene.catalog(), scene.checks());
     match coerce(alloc, c, k, t, named.ty, named.modifier, Context::Explicit) {
         Ok(tree) => Ok(tree),
-        Err(fault) => Err(refusal_of(at, at, fault)),
+        Err(fault) => Err(refusal_of(Context::Explicit, at, at, fault)),
     }
 }
 
@@ -117,7 +117,7 @@ fn constant_of(
 {
     match read_text(alloc, scene.catalog(), text, ty) {
         Ok(tree) => Ok(tree),
-        Err(fault) => Err(refusal_of(at, at, fault)),
+        Err(fault) => Err(refusal_of(Context::Explicit, at, at, fault)),
     }
 }
 
@@ -243,7 +243,52 @@ fn column_at(
     finished(scene, at, progress.nodes, progress.uses, tree)
 }
 
-/// The column of that name.
+fn new_value(alloc: Global, c: &Catalog, ty: TypeNo) -> Result<Tree, Memory>
+    requires { IsType c.now ty }
+    ensures { IfOk result (λ t. t ≡ leaf given (node_type c.now ty)) }
+{
+    Tree::make_given(alloc, node_type(c, ty))
+}
+
+/// VALUE, which has that type.
+#[tactic(auto, using(crate::proofs::Reading::known_source))]
+fn value_of(
+    alloc: Global,
+    scene: &Scene<'_>,
+    at: u64,
+    ty: TypeNo,
+    progress: Progress,
+) -> Result<Made, Refusal>
+    requires { IsValued scene.now.c ty }
+    ensures value { OrMemory is_memory (spec.value_of scene.now at progress ty) result }
+    ensures source { IfOk result (λ made. IsSource scene.now.c made.part.tree) }
+{
+    let tree = new_value(alloc, scene.catalog(), ty)?;
+    finished(scene, at, progress.nodes, progress.uses, tree)
+}
+
+/// VALUE, where the expression is a domain's check and this is the name of it.
+fn named_value(
+    alloc: Global,
+    scene: &Scene<'_>,
+    at: u64,
+    name: &str,
+    progress: Progress,
+) -> Result<Made, Refusal>
+    requires { IsScene scene.now }
+    ensures value { OrMemory is_memory (spec.named_value scene.now at name.now progress) result }
+    ensures source { IfOk result (λ made. IsSource scene.now.c made.part.tree) }
+{
+    if name != "value" {
+        return refused(Code::UnknownColumn, at);
+    }
+    match scene.value() {
+        Some(ty) => value_of(alloc, scene, at, ty, progress),
+        None => refused(Code::UnknownColumn, at),
+    }
+}
+
+/// The column of that name; in a domain's check, VALUE.
 pub fn named_column(
     alloc: Global,
     scene: &Scene<'_>,
@@ -261,6 +306,6 @@ pub fn named_column(
             let ty = header.columns()[place].ty;
             column_at(alloc, scene, at, name, place, ty, progress)
         }
-        None => refused(Code::UnknownColumn, at),
+        None => named_value(alloc, scene, at, name, progress),
     }
 }

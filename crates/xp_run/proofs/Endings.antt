@@ -1,9 +1,9 @@
 -- A run that could not read its texts leaves the sink as it was.
-use Rattle.std.proofs.Common.{◌≡◌, Bool, true, List, ℕ, Option, None, Some, Result, Err, refl, ◌∙◌}
+use Rattle.std.proofs.Common.{◌≡◌, Bool, true, List, ℕ, Option, None, Some, Result, Ok, Err, refl, ◌∙◌}
 use Rattle.std.specs.Prelude.{IfSome}
 use Rattle.xp_base.specs.Outside.{Files}
 use Rattle.xp_base.proofs.Progress.{GrowsWithin-none}
-use Rattle.xp_run.specs.Causes.{Refuses}
+use Rattle.xp_run.specs.Causes.{AreInOrder, Refuses}
 use Rattle.xp_run.specs.Inputs.{Names, Texts, inputs_in, inputs_of, texts_in}
 use Rattle.xp_run.specs.Run.{Leaves, Reports, is_fine_run, output}
 use Rattle.xp_run.specs.Status.{status_of}
@@ -56,3 +56,8 @@ Reports-no_words held names old exit n e s = record {
   leaves = rw (n, e) (record { fault = refl; unwritten = refl });
   status = s ∙ rw e refl;
 }
+
+-- texts that were read to their end are in order
+pub in_order : (held : Option Files) (names : Names) (inputs : Inputs) → IfSome held (λ files. inputs_in files names ≡ Ok inputs) → AreInOrder held names
+in_order None names inputs said = tt
+in_order (Some files) names inputs said = (inputs, said)

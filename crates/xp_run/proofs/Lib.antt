@@ -1,4 +1,3 @@
-pub mod Checks
 pub mod Columns
 pub mod Endings
 pub mod LastLines

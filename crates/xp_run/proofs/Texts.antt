@@ -6,7 +6,8 @@ use Rattle.xp_base.specs.Outside.{Files, Tells, TellsLonger, text_at}
 use Rattle.xp_base.specs.declared.limits.TheConstants.{SCRIPT_LIMIT}
 use Rattle.xp_catalog.specs.Contents.{Contents}
 use Rattle.xp_base.specs.FromLeft.{and_then}
-use Rattle.xp_run.specs.Inputs.{Names, Table, Texts, catalog_of, table_of, texts_in, within}
+use Rattle.xp_analyse.specs.Checks.{prepared}
+use Rattle.xp_run.specs.Inputs.{Checked, Names, Table, Texts, catalog_of, records_of, table_of, texts_in, with_checks, within}
 use Rattle.xp_run.specs.inner.Reading.{ReadsTable, ReadsText, ReadsTexts, Says}
 use Rattle.xp_run.specs.declared.ending.Ending.{Ending}
 use Rattle.xp_run.specs.declared.ending.Ending.TheVariants.{Done, BadWords, BadCatalog, BadRows, TooLong, ReadFault, WriteFault, Memory}
@@ -90,6 +91,14 @@ text_stops held name limit f end r = record { text = r.text; told = r.told; says
 pub text_then : {U : Type 0} (held : Option Files) (name : List ℕ) (limit : ℕ) (f : List ℕ → Result U Ending) (text : List ℕ) (answer : Result U Ending) → ReadsText held name (within limit) (Ok text) → Says (f text) answer → ReadsText held name (λ t. and_then (within limit t) f) answer
 text_then held name limit f text answer r s = record { text = r.text; told = r.told; says = Says-by _ (f text) answer (ap (λ w. and_then w f) r.says) s }
 
+-- the checks of a catalogue's records
+pub records_stop : (held : Option Files) (name : List ℕ) (end : Ending) → ReadsText held name records_of (Err end) → ReadsText held name catalog_of (Err end)
+records_stop held name end r = record { text = r.text; told = r.told; says = Says-stops (records_of r.text) (λ contents. with_checks contents (prepared contents)) end r.says }
+
+pub records_then : (held : Option Files) (name : List ℕ) (contents : Contents) (answer : Result Checked Ending) → ReadsText held name records_of (Ok contents) → Says (with_checks contents (prepared contents)) answer → ReadsText held name catalog_of answer
+records_then held name contents answer r s =
+    record { text = r.text; told = r.told; says = Says-by _ (with_checks contents (prepared contents)) answer (ap (λ w. and_then w (λ c. with_checks c (prepared c))) r.says) s }
+
 -- ---- all texts
 
 -- the rows that are told under a name, where there is one, or another text
@@ -106,13 +115,13 @@ all_told : (held : Option Files) (names : Names) (catalog script rows : Option (
 all_told None names catalog script rows c s r = tt
 all_told (Some files) names catalog script rows c s r = rw (c, s, r) refl
 
-abbrev pub made : Contents → List ℕ → Table → Result Inputs Ending
-made catalog script table = Ok (record { catalog = catalog; script = script; header = table.0; rows = table.1 })
+abbrev pub made : Checked → List ℕ → Table → Result Inputs Ending
+made catalog script table = Ok (record { catalog = catalog.0; checks = catalog.1; script = script; header = table.0; rows = table.1 })
 
-abbrev pub behind_script : Names → Option (List ℕ) → Contents → List ℕ → Result Inputs Ending
-behind_script names rows catalog script = and_then (table_of catalog names.rows rows) (made catalog script)
+abbrev pub behind_script : Names → Option (List ℕ) → Checked → List ℕ → Result Inputs Ending
+behind_script names rows catalog script = and_then (table_of catalog.0 names.rows rows) (made catalog script)
 
-abbrev pub behind_catalog : Names → Texts → Contents → Result Inputs Ending
+abbrev pub behind_catalog : Names → Texts → Checked → Result Inputs Ending
 behind_catalog names texts catalog = and_then (within SCRIPT_LIMIT texts.script) (behind_script names texts.rows catalog)
 
 -- the catalogue's text stops the reading, whatever the others are
@@ -125,7 +134,7 @@ texts_stop held names end r =
       says = Says-stops (catalog_of r.text) (behind_catalog names texts) end r.says;
     }
 
-pub texts_script : (held : Option Files) (names : Names) (catalog : Contents) (end : Ending) → ReadsText held names.catalog catalog_of (Ok catalog) → ReadsText held names.script (within SCRIPT_LIMIT) (Err end) → ReadsTexts held names (Err end)
+pub texts_script : (held : Option Files) (names : Names) (catalog : Checked) (end : Ending) → ReadsText held names.catalog catalog_of (Ok catalog) → ReadsText held names.script (within SCRIPT_LIMIT) (Err end) → ReadsTexts held names (Err end)
 texts_script held names catalog end c s =
     let texts : Texts = record { catalog = c.text; script = s.text; rows = rows_or held names.rows None } in
     record {
@@ -134,18 +143,18 @@ texts_script held names catalog end c s =
       says = Says-by _ _ (Err end) (ap (λ r. and_then r (behind_catalog names texts)) c.says) (Says-stops (within SCRIPT_LIMIT s.text) (behind_script names texts.rows catalog) end s.says);
     }
 
-pub texts_table : (held : Option Files) (names : Names) (catalog : Contents) (script : List ℕ) (end : Ending) → ReadsText held names.catalog catalog_of (Ok catalog) → ReadsText held names.script (within SCRIPT_LIMIT) (Ok script)
-    → ReadsTable held catalog names.rows (Err end) → ReadsTexts held names (Err end)
+pub texts_table : (held : Option Files) (names : Names) (catalog : Checked) (script : List ℕ) (end : Ending) → ReadsText held names.catalog catalog_of (Ok catalog) → ReadsText held names.script (within SCRIPT_LIMIT) (Ok script)
+    → ReadsTable held catalog.0 names.rows (Err end) → ReadsTexts held names (Err end)
 texts_table held names catalog script end c s r =
     let texts : Texts = record { catalog = c.text; script = s.text; rows = r.text } in
     record {
       texts = texts;
       told = all_told held names c.text s.text r.text c.told s.told r.told;
-      says = Says-by _ _ (Err end) (ap (λ x. and_then x (behind_catalog names texts)) c.says ∙ ap (λ x. and_then x (behind_script names r.text catalog)) s.says) (Says-stops (table_of catalog names.rows r.text) (made catalog script) end r.says);
+      says = Says-by _ _ (Err end) (ap (λ x. and_then x (behind_catalog names texts)) c.says ∙ ap (λ x. and_then x (behind_script names r.text catalog)) s.says) (Says-stops (table_of catalog.0 names.rows r.text) (made catalog script) end r.says);
     }
 
-pub texts_whole : (held : Option Files) (names : Names) (catalog : Contents) (script : List ℕ) (table : Table) → ReadsText held names.catalog catalog_of (Ok catalog) → ReadsText held names.script (within SCRIPT_LIMIT) (Ok script)
-    → ReadsTable held catalog names.rows (Ok table) → ReadsTexts held names (made catalog script table)
+pub texts_whole : (held : Option Files) (names : Names) (catalog : Checked) (script : List ℕ) (table : Table) → ReadsText held names.catalog catalog_of (Ok catalog) → ReadsText held names.script (within SCRIPT_LIMIT) (Ok script)
+    → ReadsTable held catalog.0 names.rows (Ok table) → ReadsTexts held names (made catalog script table)
 texts_whole held names catalog script table c s r =
     let texts : Texts = record { catalog = c.text; script = s.text; rows = r.text } in
     record {

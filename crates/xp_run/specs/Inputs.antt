@@ -1,20 +1,23 @@
 -- The texts that a run reads, in the order in which they are looked at: the first that isn't in order names the ending.
-use Rattle.std.specs.Prelude.{ℕ, ◌+◌, ◌==◌, List, [], ◌∷◌, cond, codes, length, nat_lt, Option, Some, None, option_and_then, Result, Ok, Err}
+use Rattle.std.specs.Prelude.{ℕ, ◌+◌, List, [], ◌∷◌, cond, codes, length, nat_lt, Option, Some, None, option_and_then, Result, Ok, Err}
 use Rattle.std.specs.Str.{bytes_eq}
 use Rattle.xp_base.specs.Outside.{Files, text_at}
 use Rattle.xp_base.specs.declared.limits.TheConstants.{CATALOG_LIMIT, ROWS_LIMIT, SCRIPT_LIMIT}
 use Rattle.xp_value.specs.declared.value.Value.{Value}
 use Rattle.xp_catalog.specs.Contents.{Contents}
 use Rattle.xp_catalog.specs.declared.header.HeaderColumn.{HeaderColumn}
-use Rattle.xp_catalog.specs.declared.rows.DomainRow.{DomainRow}
 use Rattle.xp_catalog.specs.declared.why.CatFault.{CatFault}
 use Rattle.xp_catalog.specs.declared.why.CatFault.TheVariants as fault
 use Rattle.xp_catalog.specs.declared.why.Why.TheVariants as why
+use Rattle.xp_analyse.specs.declared.fault.CheckFault.{CheckFault}
+use Rattle.xp_analyse.specs.declared.fault.CheckFault.TheVariants as check_fault
+use Rattle.xp_analyse.specs.Checks.{prepared}
 use Rattle.xp_loader.specs.Loading.{load_catalog}
 use Rattle.xp_rows.specs.declared.fault.RowsFault.{RowsFault}
 use Rattle.xp_rows.specs.Faults.{is_outside}
 use Rattle.xp_rows.specs.Loading.{load_rows}
 use Rattle.xp_base.specs.FromLeft.{and_then}
+use Rattle.xp_tree.specs.declared.checks.DomainCheck.{DomainCheck}
 use Rattle.xp_run.specs.declared.ending.Ending.{Ending}
 use Rattle.xp_run.specs.declared.ending.Ending.TheVariants.{BadCatalog, BadRows, TooLong, ReadFault, Memory}
 use Rattle.xp_run.specs.declared.inputs.Inputs.{Inputs}
@@ -55,25 +58,29 @@ within limit (Some text) = cond (nat_lt limit (length text)) (Err (TooLong (limi
 
 -- ---- the catalogue
 
--- the line of the first domain that has a check
-abbrev pub first_check : List DomainRow → Option ℕ
-first_check [] = None
-first_check (domain ∷ others) = cond (length domain.check == 0) (first_check others) (Some domain.line)
-
--- checks of domains aren't built yet, so the first is refused
-abbrev pub unless_check : Option ℕ → Contents → Result Contents Ending
-unless_check None contents = Ok contents
-unless_check (Some line) contents = Err (BadCatalog line why.BadCheck)
-
 abbrev pub loaded : Result Contents CatFault → Result Contents Ending
-loaded (Ok contents) = unless_check (first_check contents.domains) contents
+loaded (Ok contents) = Ok contents
 loaded (Err (fault.Row line cause)) = Err (BadCatalog line cause)
 loaded (Err (fault.TooManyRows line)) = Err (BadCatalog line why.TooMany)
 loaded (Err fault.Unread) = Err Memory
 loaded (Err fault.Memory) = Err Memory
 
-abbrev pub catalog_of : Option (List ℕ) → Result Contents Ending
-catalog_of text = and_then (within CATALOG_LIMIT text) (λ bytes. loaded (load_catalog bytes))
+abbrev pub records_of : Option (List ℕ) → Result Contents Ending
+records_of text = and_then (within CATALOG_LIMIT text) (λ bytes. loaded (load_catalog bytes))
+
+-- a catalogue, and the checks of its domains
+abbrev pub Checked : Type 0
+Checked = Contents × List DomainCheck
+
+-- a check that is refused is the fault of its domain's record
+abbrev pub with_checks : Contents → Result (List DomainCheck) CheckFault → Result Checked Ending
+with_checks contents (Ok checks) = Ok (contents, checks)
+with_checks contents (Err (check_fault.BadCheck line)) = Err (BadCatalog line why.BadCheck)
+with_checks contents (Err check_fault.Memory) = Err Memory
+
+-- the records, and then the checks
+abbrev pub catalog_of : Option (List ℕ) → Result Checked Ending
+catalog_of text = and_then (records_of text) (λ contents. with_checks contents (prepared contents))
 
 -- ---- the rows
 
@@ -101,8 +108,8 @@ abbrev pub inputs_of : Names → Texts → Result Inputs Ending
 inputs_of names texts =
     and_then (catalog_of texts.catalog) (λ catalog.
     and_then (within SCRIPT_LIMIT texts.script) (λ script.
-    and_then (table_of catalog names.rows texts.rows) (λ table.
-    Ok (record { catalog = catalog; script = script; header = table.0; rows = table.1 }))))
+    and_then (table_of catalog.0 names.rows texts.rows) (λ table.
+    Ok (record { catalog = catalog.0; checks = catalog.1; script = script; header = table.0; rows = table.1 }))))
 
 abbrev pub inputs_in : Files → Names → Result Inputs Ending
 inputs_in files names = inputs_of names (texts_in files names)

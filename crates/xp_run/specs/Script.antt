@@ -14,9 +14,9 @@ use Rattle.xp_analyse.specs.Statements.{analysed, is_evaluated}
 use Rattle.xp_run.specs.Answer.{Answer, Refused, said}
 use Rattle.xp_run.specs.declared.inputs.Inputs.{Inputs}
 
--- over the columns of the rows; no domain has a check
+-- over the checks of the domains and the columns of the rows
 abbrev pub statement_answer : Inputs → Statement → Option Answer
-statement_answer inputs s = said inputs.rows (is_evaluated s) (analysed inputs.catalog [] inputs.header s)
+statement_answer inputs s = said inputs.rows (is_evaluated s) (analysed inputs.catalog inputs.checks inputs.header s)
 
 -- by what the tokens are, which are never out of memory here
 abbrev pub parsed_answer : Inputs → Result Statement ParseFault → Option Answer

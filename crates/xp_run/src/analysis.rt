@@ -14,7 +14,6 @@ use xp_base::{Code, Memory};
 use xp_grammar::Statement;
 use xp_parser::{ParseFault, parse};
 use xp_token::Tokens;
-use xp_tree::Checks;
 
 /// What a statement answers, before it is evaluated.
 #[derive(Drop)]
@@ -33,7 +32,7 @@ fn is_evaluated(statement: &Statement) -> bool
     !matches!(statement, Statement::Describe { .. })
 }
 
-/// Analyses a statement over a catalogue without checks of domains.
+/// Analyses a statement over what the run works on.
 fn analyse_statement(
     alloc: Global,
     inputs: &Inputs,
@@ -43,8 +42,13 @@ fn analyse_statement(
     ensures value { IfOk result (λ analysis. Some (answer_of inputs.now.rows analysis) ≡ statement_answer inputs.now statement.now) }
     ensures ready { IfOk result IsReady }
 {
-    let checks = Checks::new(alloc);
-    match analyse(alloc, &inputs.catalog, &checks, &inputs.header, statement) {
+    match analyse(
+        alloc,
+        &inputs.catalog,
+        &inputs.checks,
+        &inputs.header,
+        statement,
+    ) {
         Ok(typed) if is_evaluated(statement) => Ok(Analysis::Evaluated(typed)),
         Ok(typed) => Ok(Analysis::Described(typed)),
         Err(Refusal::At { code, at }) => Ok(Analysis::Refused { code, at }),

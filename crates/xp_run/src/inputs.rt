@@ -4,23 +4,28 @@ ghost use Rattle.xp_base.specs.Growth.{Rose};
 ghost use Rattle.xp_base.specs.Outside.{text_at};
 ghost use Rattle.xp_base.specs.declared.limits.TheConstants.{COLUMN_LIMIT};
 ghost use Rattle.xp_bodies.specs.Fits.{IsFitted};
+ghost use Rattle.xp_coerce.specs.Asked.{AreTruths};
 ghost use Rattle.xp_named.specs.Columns.{AreColumns};
-ghost use Rattle.xp_run.specs.Inputs.{catalog_of, first_check, inputs_in, no_columns, table_of, unless_check, within};
+ghost use Rattle.xp_run.specs.Inputs.{catalog_of, inputs_in, no_columns, records_of, table_of, within};
 ghost use Rattle.xp_run.specs.inner.Usable.{AreUsable};
 ghost use Rattle.xp_run.specs.inner.Reading.{Reads, ReadsTable, ReadsText, ReadsTexts, table_in};
 
 use crate::ending::Ending;
 use sqlite_items::Items;
 use std::alloc::Global;
-use xp_base::{Byts, CATALOG_LIMIT, LoadFault, ROWS_LIMIT, RowNo, SCRIPT_LIMIT, Shelf, Txt};
+use xp_analyse::{CheckFault, prepare};
+use xp_base::{Byts, CATALOG_LIMIT, LoadFault, ROWS_LIMIT, SCRIPT_LIMIT, Shelf, Txt};
 use xp_catalog::{CatFault, Catalog, Header, Why};
 use xp_loader::load;
 use xp_rows::{Rows, RowsFault, load_rows};
+use xp_tree::Checks;
 
 /// What a run works on.
 #[derive(Drop)]
 pub struct Inputs {
     pub catalog: Catalog,
+    /// The checks of its domains.
+    pub checks: Checks,
     pub script: Byts,
     pub header: Header,
     pub rows: Rows,
@@ -42,36 +47,10 @@ fn load_text<F: Shelf>(alloc: Global, name: &str, limit: u64, shelf: &mut F) -> 
     }
 }
 
-/// The line of the first domain that has a check.
-#[tactic(auto, using(xp_base::proofs::Lists::drop_none))]
-fn first_check(catalog: &Catalog) -> Option<u32>
-    ensures { result ≡ first_check catalog.now.domains }
-{
-    for number in 0..catalog.counts().domains {
-        let domain = catalog.domain_row(RowNo(number));
-        if !domain.check.as_slice().is_empty() {
-            return Some(domain.line);
-        }
-    }
-    None
-}
-
-fn unless_check(catalog: Catalog) -> Result<Catalog, Ending>
-    ensures { result ≡ unless_check (first_check catalog.domains) catalog }
-{
-    match first_check(&catalog) {
-        Some(line) => Err(Ending::BadCatalog {
-            line,
-            why: Why::BadCheck,
-        }),
-        None => Ok(catalog),
-    }
-}
-
 #[tactic(auto, using(crate::proofs::Texts::text_stops, crate::proofs::Texts::text_then, crate::proofs::Texts::reads_memory))]
-fn load_catalog<F: Shelf>(alloc: Global, name: &str, shelf: &mut F) -> Result<Catalog, Ending>
-    ensures answer { Reads (F.held shelf.old) (λ files. catalog_of (text_at files name.now)) (Rose (F.faults shelf.old) (F.faults shelf.new)) result }
-    ensures text { ReadsText (F.held shelf.old) name.now catalog_of result }
+fn load_records<F: Shelf>(alloc: Global, name: &str, shelf: &mut F) -> Result<Catalog, Ending>
+    ensures answer { Reads (F.held shelf.old) (λ files. records_of (text_at files name.now)) (Rose (F.faults shelf.old) (F.faults shelf.new)) result }
+    ensures text { ReadsText (F.held shelf.old) name.now records_of result }
     ensures fitted { IfOk result IsFitted }
     ensures same { F.held shelf.new ≡ F.held shelf.old }
     ensures rises { F.faults shelf.old ≤ F.faults shelf.new }
@@ -81,13 +60,41 @@ fn load_catalog<F: Shelf>(alloc: Global, name: &str, shelf: &mut F) -> Result<Ca
         Err(end) => return Err(end),
     };
     match load(alloc, text.as_slice()) {
-        Ok(catalog) => unless_check(catalog),
+        Ok(catalog) => Ok(catalog),
         Err(CatFault::Row { line, why }) => Err(Ending::BadCatalog { line, why }),
         Err(CatFault::TooManyRows { line }) => Err(Ending::BadCatalog {
             line,
             why: Why::TooMany,
         }),
         Err(CatFault::Unread | CatFault::Memory) => Err(Ending::Memory),
+    }
+}
+
+/// The catalogue, and the checks of its domains.
+#[tactic(auto, using(crate::proofs::Texts::records_stop, crate::proofs::Texts::records_then, crate::proofs::Texts::reads_memory))]
+fn load_catalog<F: Shelf>(
+    alloc: Global,
+    name: &str,
+    shelf: &mut F,
+) -> Result<(Catalog, Checks), Ending>
+    ensures answer { Reads (F.held shelf.old) (λ files. catalog_of (text_at files name.now)) (Rose (F.faults shelf.old) (F.faults shelf.new)) result }
+    ensures text { ReadsText (F.held shelf.old) name.now catalog_of result }
+    ensures fitted { IfOk result (λ checked. IsFitted checked.0) }
+    ensures truths { IfOk result (λ checked. AreTruths checked.1) }
+    ensures same { F.held shelf.new ≡ F.held shelf.old }
+    ensures rises { F.faults shelf.old ≤ F.faults shelf.new }
+{
+    let catalog = match load_records(alloc, name, shelf) {
+        Ok(catalog) => catalog,
+        Err(end) => return Err(end),
+    };
+    match prepare(alloc, &catalog) {
+        Ok(checks) => Ok((catalog, checks)),
+        Err(CheckFault::BadCheck { line }) => Err(Ending::BadCatalog {
+            line,
+            why: Why::BadCheck,
+        }),
+        Err(CheckFault::Memory) => Err(Ending::Memory),
     }
 }
 
@@ -149,7 +156,7 @@ fn load_table<F: Shelf>(
     }
 }
 
-/// Loads the catalogue, then the script, and then the rows.
+/// Loads the catalogue with the checks of its domains, then the script, and then the rows.
 #[tactic(auto, using(crate::proofs::Texts::texts_stop, crate::proofs::Texts::texts_script, crate::proofs::Texts::texts_table, crate::proofs::Texts::texts_whole))]
 pub fn load_inputs<F: Shelf>(
     alloc: Global,
@@ -165,8 +172,8 @@ pub fn load_inputs<F: Shelf>(
     ensures same { F.held shelf.new ≡ F.held shelf.old }
     ensures rises { F.faults shelf.old ≤ F.faults shelf.new }
 {
-    let catalog = match load_catalog(alloc, catalog, shelf) {
-        Ok(catalog) => catalog,
+    let (catalog, checks) = match load_catalog(alloc, catalog, shelf) {
+        Ok(checked) => checked,
         Err(end) => return Err(end),
     };
     let script = match load_text(alloc, script, SCRIPT_LIMIT, shelf) {
@@ -176,6 +183,7 @@ pub fn load_inputs<F: Shelf>(
     match load_table(alloc, &catalog, rows, shelf) {
         Ok((header, rows)) => Ok(Inputs {
             catalog,
+            checks,
             script,
             header,
             rows,

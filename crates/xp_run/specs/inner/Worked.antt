@@ -28,4 +28,4 @@ small = record {
 
 -- a script over the small catalogue, without a rows file
 abbrev pub over_small : List ℕ → Inputs
-over_small script = record { catalog = small; script = script; header = []; rows = [] ∷ [] }
+over_small script = record { catalog = small; checks = []; script = script; header = []; rows = [] ∷ [] }

@@ -1,4 +1,4 @@
-use Rattle.xp_analyse.proofs.Analysing.{describes, selects}
+use Rattle.xp_analyse.proofs.Analysing.{describes, selects, stores}
 use Rattle.xp_analyse.proofs.statement.analyse.Goals as goal
 
 pub returns-in-Select-clause-value : goal.returns-in-Select-clause-value
@@ -8,3 +8,7 @@ returns-in-Select-clause-value c =
 pub returns-in-Describe-clause-value : goal.returns-in-Describe-clause-value
 returns-in-Describe-clause-value c =
     describes c.args.c.now c.args.k.now c.args.h.now c.args.s.now c.in-Describe.at c.in-Describe.exprs c.new-scene.result c.describe.result c.in-Describe.is (rw c.place_of.ensures at c.new-scene.ensures) (rw c.as_slice-in-Describe.ensures at c.describe.ensures)
+
+pub returns-in-Store-clause-value : goal.returns-in-Store-clause-value
+returns-in-Store-clause-value c =
+    stores c.args.c.now c.args.k.now c.args.h.now c.args.s.now c.in-Store.at c.in-Store.target c.in-Store.source c.new-scene.result c.store.result c.in-Store.is (rw c.place_of.ensures at c.new-scene.ensures) c.store.ensures.value
