@@ -88,6 +88,30 @@ SELECT id, upper(customer);
 SELECT float8 '1.5';
 SELECT concat(1,1,1,1,1,1,1,1,1,1,1,1,1,1,1,1,1,1,1,1,1,1,1,1,1,1,1,1,1,1,1,1,1,1,1,1,1,1,1,1,1,1,1,1,1,1,1,1,1,1,1,1,1,1,1,1,1,1,1,1,1,1,1,1,1,1,1,1,1,1,1,1,1,1,1,1,1,1,1,1,1,1,1,1,1,1,1,1,1,1,1,1,1,1,1,1,1,1,1,1,1);
 
--- ---- A text without end (61), which ends the script.
+-- ---- Functions and conversions of whole numbers (61 to 65).
+SELECT id, mod(qty, 5), abs(qty - 5), qty / 2, - qty;
+SELECT qty & 6, qty | 1, qty # 5, ~ qty, qty << 2, -qty >> 1;
+SELECT qty::int2, qty::int8 * 9000000000, qty::bool, qty > 4, to_hex(qty);
+-- By text, and cut to a length.
+SELECT id::text, qty::varchar(1), customer::char(3), '7'::text::int8;
+SELECT customer::int4;
+
+-- ---- The order of evaluation (66 to 69): a strict call looks at all its operands, from left to right;
+-- of constant parts the first that raises answers before any row.
+SELECT id, NULL::int4 + 60 / qty;
+SELECT 60 / (qty - 3) + (2147483647 + id);
+SELECT qty * '12x'::text::int4;
+SELECT 60 / qty, 32767::int2 + 1::int2;
+
+-- ---- STORE (70 to 76): as a column of the type keeps the value.
+STORE varchar(3) FROM customer;
+STORE varchar(5) FROM 'abcde   ';
+STORE smallint FROM qty * 4000;
+STORE text FROM qty;
+STORE int4 FROM '0x10';
+STORE bool FROM qty;
+STORE int4 FROM 'five';
+
+-- ---- A text without end (77), which ends the script.
 SELECT 'never closed;
 SELECT 1;

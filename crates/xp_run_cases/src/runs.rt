@@ -5,6 +5,8 @@
 //! |---|---|
 //! | `CATALOG SCRIPT` | a script without rows |
 //! | `rows CATALOG ROWS => SCRIPT` | a script over rows |
+//! | `with CATALOG RECORDS => SCRIPT` | a script, over a catalogue with these records behind it |
+//! | `with CATALOG RECORDS => ROWS => SCRIPT` | the same over rows |
 //! | `wide CATALOG COUNT MORE => SCRIPT` | the same over so many columns |
 //! | `many CATALOG COUNT => SCRIPT` | the same over so many rows |
 //! | `nodes CATALOG SUMS NUMBERS MORE` | a script of many nodes |
@@ -27,6 +29,35 @@ const ROOM: u64 = 65_536;
 const SCRIPT: &[u8] = b"SELECT 7 / 2";
 
 const ROWS: &[u8] = b"x int4\n1\n2\n";
+
+/// The forms of cases that begin with a word of their own; every other begins with a catalogue.
+#[derive(Clone, Copy)]
+enum Form {
+    Rows,
+    Records,
+    Wide,
+    Many,
+    Nodes,
+    Words,
+    Padded,
+    Files,
+}
+
+impl Form {
+    fn named(word: &str) -> Option<Form> {
+        match word {
+            "rows" => Some(Form::Rows),
+            "with" => Some(Form::Records),
+            "wide" => Some(Form::Wide),
+            "many" => Some(Form::Many),
+            "nodes" => Some(Form::Nodes),
+            "words" => Some(Form::Words),
+            "padded" => Some(Form::Padded),
+            "files" => Some(Form::Files),
+            _ => None,
+        }
+    }
+}
 
 /// Answers by runs over texts in memory, or over the files of the system.
 #[derive(Drop)]
@@ -132,6 +163,22 @@ impl<'a, R: Files + AllocGlobal> Runs<'a, R> {
         )
     }
 
+    fn with_records(&self, alloc: Global, text: &str) -> Result<String> {
+        let (name, rest) = cut(text);
+        let Some((records, rest)) = rest.split_once(" => ") else {
+            bail!("records, => and a script are wanted");
+        };
+        let mut catalog = self.catalog(alloc, name)?;
+        catalog.extend_from_slice(bytes(alloc, records)?.as_slice())?;
+        match rest.split_once(" => ") {
+            Some((rows, script)) => {
+                let rows = bytes(alloc, rows)?;
+                over_rows(alloc, &catalog, &bytes(alloc, script)?, &rows)
+            }
+            None => over_script(alloc, &catalog, &bytes(alloc, rest)?),
+        }
+    }
+
     fn wide(&self, alloc: Global, text: &str) -> Result<String> {
         let (name, rest) = cut(text);
         let (header, script) = rows_and_script(alloc, rest)?;
@@ -177,15 +224,16 @@ impl<'a, R: Files + AllocGlobal> Runs<'a, R> {
 impl<R: Files + AllocGlobal> Answers for Runs<'_, R> {
     fn answer(&self, alloc: Global, case: &str) -> Result<String> {
         let (word, rest) = cut(case);
-        match word {
-            "rows" => self.rows(alloc, rest),
-            "wide" => self.wide(alloc, rest),
-            "many" => self.many(alloc, rest),
-            "nodes" => self.nodes(alloc, rest),
-            "words" => self.words(alloc, rest),
-            "padded" => self.padded(alloc, rest),
-            "files" => run_over(alloc, rest, &mut FileShelf::new(self.rt)),
-            _ => self.scripts(alloc, word, rest),
+        match Form::named(word) {
+            Some(Form::Rows) => self.rows(alloc, rest),
+            Some(Form::Records) => self.with_records(alloc, rest),
+            Some(Form::Wide) => self.wide(alloc, rest),
+            Some(Form::Many) => self.many(alloc, rest),
+            Some(Form::Nodes) => self.nodes(alloc, rest),
+            Some(Form::Words) => self.words(alloc, rest),
+            Some(Form::Padded) => self.padded(alloc, rest),
+            Some(Form::Files) => run_over(alloc, rest, &mut FileShelf::new(self.rt)),
+            None => self.scripts(alloc, word, rest),
         }
     }
 }
