@@ -1,0 +1,4 @@
+pub mod Named
+pub mod Fitting
+pub mod Alike
+pub mod Judging

@@ -1,0 +1,5 @@
+pub mod Truths
+pub mod Connectives
+pub mod Tests
+pub mod Common
+pub mod Rewritten

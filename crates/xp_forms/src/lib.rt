@@ -1,0 +1,21 @@
+//! What connectives, tests, the selections by a common type, LIKE, BETWEEN and IN mean over operands that
+//! are resolved already: the typed tree, the overloads that are chosen, or the first refusal (manual 9.1,
+//! 9.2, 9.7.1, 9.18, 9.24.1, 10.5). It stands on `xp_resolve`, reads no statement, goes down no syntax,
+//! and evaluates nothing.
+#![tactic(auto)]
+
+mod common;
+mod connectives;
+mod operands;
+mod rewritten;
+mod tests;
+mod truths;
+
+pub use common::selected;
+pub use connectives::{Connective, connected, negated};
+pub use operands::Both;
+pub use rewritten::{
+    between_connective, first_half, in_connective, judged, like_operator, liked, lower_operator,
+    member_operator, upper_operator,
+};
+pub use tests::tested;
