@@ -1,1 +1,3 @@
+pub mod Extracted
 pub mod Places
+pub mod Trimmed

@@ -7,3 +7,4 @@ pub mod Lexer
 pub mod Scripts
 pub mod Trimming
 pub mod Widths
+mod Printed
