@@ -1,3 +1,1 @@
-pub mod Extracted
 pub mod Places
-pub mod Trimmed

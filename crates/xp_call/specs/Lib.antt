@@ -1,9 +1,4 @@
-pub mod Applied
-pub mod Arguments
 pub mod Calls
-pub mod Dates
 pub mod Integers
-pub mod Numerics
 pub mod Operations
-pub mod Words
 pub mod inner

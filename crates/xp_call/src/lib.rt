@@ -2,12 +2,9 @@
 //! functions of the types, one crate a family. It never looks at a catalogue or a tree.
 #![tactic(auto)]
 
-mod arguments;
 mod calls;
-mod dates;
 mod fault;
 mod integers;
-mod numerics;
 mod operations;
 
 pub use calls::{call, is_built};

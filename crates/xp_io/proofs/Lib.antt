@@ -7,4 +7,3 @@ pub mod Lexer
 pub mod Scripts
 pub mod Trimming
 pub mod Widths
-mod Printed

@@ -19,10 +19,8 @@ is_built rep.Bool = true
 is_built rep.Int2 = true
 is_built rep.Int4 = true
 is_built rep.Int8 = true
-is_built rep.Num = true
 is_built rep.Text = true
 is_built rep.Pad = true
-is_built rep.Day = true
 is_built _ = false
 
 abbrev pub built : Rep → Rep

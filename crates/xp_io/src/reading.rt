@@ -8,14 +8,11 @@ ghost use Rattle.xp_value.specs.Representation.{is_of, plain};
 use crate::booleans::input_bool;
 use crate::integers::input_integer;
 use crate::representations::rep_of;
-use crate::space::trimmed;
 use std::alloc::Global;
 use std::str;
 use thiserror::Error;
 use xp_base::{EvalError, Memory, Txt, TypeNo, VALUE_LIMIT};
 use xp_catalog::Catalog;
-use xp_date::read_date;
-use xp_numeric::read_numeric;
 use xp_value::{Rep, Value};
 
 /// Why a text gave no value.
@@ -74,8 +71,6 @@ fn by_form(alloc: Global, rep: Rep, text: &str) -> Result<Value, InFault>
         Rep::Int2 => Ok(Value::Int(input_integer(16, bytes)?)),
         Rep::Int4 => Ok(Value::Int(input_integer(32, bytes)?)),
         Rep::Int8 => Ok(Value::Int(input_integer(64, bytes)?)),
-        Rep::Num => Ok(Value::Num(read_numeric(trimmed(bytes))?)),
-        Rep::Day => Ok(Value::Day(read_date(trimmed(bytes))?)),
         Rep::Text => Ok(Value::Text(Txt::from_str(alloc, text)?)),
         Rep::Pad => Ok(Value::Pad(Txt::from_str(alloc, text)?)),
         _ => Ok(Value::Opaque(Txt::from_str(alloc, text)?)),

@@ -32,14 +32,7 @@ fn is_built(rep: Rep) -> bool
 {
     matches!(
         rep,
-        Rep::Bool
-            | Rep::Int2
-            | Rep::Int4
-            | Rep::Int8
-            | Rep::Num
-            | Rep::Text
-            | Rep::Pad
-            | Rep::Day
+        Rep::Bool | Rep::Int2 | Rep::Int4 | Rep::Int8 | Rep::Text | Rep::Pad
     )
 }
 

@@ -1,4 +1,0 @@
-pub mod Named
-pub mod Fitting
-pub mod Alike
-pub mod Judging
