@@ -95,7 +95,7 @@ fn value(alloc: Global, text: &str) -> Result<Value> {
 }
 
 /// The values of a case, with ` | ` between.
-pub fn values(alloc: Global, text: &str) -> Result<Items<Value>> {
+fn values(alloc: Global, text: &str) -> Result<Items<Value>> {
     let mut values = Items::new(alloc);
     for part in text.split(" | ") {
         values.push(value(alloc, part)?)?;

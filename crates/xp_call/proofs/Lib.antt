@@ -1,4 +1,1 @@
-pub mod Answered
-pub mod Extracted
 pub mod Places
-pub mod Trimmed

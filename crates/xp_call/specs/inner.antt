@@ -1,4 +1,1 @@
-pub mod Answers
-pub mod Comparisons
 pub mod Places
-pub mod TextPlaces

@@ -1,16 +1,9 @@
-//! What the bodies do, and which body does what (manual 9.1 to 9.5, 9.7, 9.9).
+//! What the bodies of the integer types and of boolean do, and which body does what (manual 9.1 to
+//! 9.4).
 ghost use Rattle.std.specs.Prelude.{◌≡◌, ◌<◌};
-ghost use Rattle.xp_call.specs.Integers.{wider};
-ghost use Rattle.xp_call.specs.Operations.{operation_at};
-ghost use Rattle.xp_call.specs.inner.Comparisons.{comparison_word as comparison_of};
+ghost use Rattle.xp_call.specs.Operations.{operation_at, wider};
 ghost use Rattle.xp_call.specs.inner.Places as places;
 
-use crate::bytes::{BytesMaking, BytesOperation};
-use crate::dates::{DateOperation, date_at};
-use crate::made_texts::TextMaking;
-use crate::numerics::{NumericOperation, numeric_at};
-use crate::text_places::text_at;
-use crate::texts::TextOperation;
 use xp_base::BodyNo;
 
 /// An integer type.
@@ -91,16 +84,9 @@ pub enum Operation {
     Int4OfBool,
     HexOfInt4,
     HexOfInt8,
-    Numeric(NumericOperation),
-    Text(TextOperation),
-    MakeText(TextMaking),
-    Bytes(BytesOperation),
-    MakeBytes(BytesMaking),
-    Date(DateOperation),
 }
 
-/// The integer type at a place among the three.
-pub fn int_type_at(place: u32) -> IntType
+fn int_type_at(place: u32) -> IntType
     ensures { result ≡ places.int_type_at place }
 {
     match place {
@@ -122,9 +108,8 @@ fn arithmetic_word(place: u32) -> Binary
     }
 }
 
-/// The comparison at a place among the six.
-pub fn comparison_word(place: u32) -> Comparison
-    ensures { result ≡ comparison_of place }
+fn comparison_word(place: u32) -> Comparison
+    ensures { result ≡ places.comparison_word place }
 {
     match place {
         0 => Comparison::Equal,
@@ -196,21 +181,6 @@ fn other_at(place: u32) -> Operation
     }
 }
 
-/// Numerics, texts and byte strings, dates.
-fn later_at(place: u32) -> Option<Operation>
-    ensures { result ≡ places.later_at place }
-{
-    if place < 30 {
-        Some(Operation::Numeric(numeric_at(place)))
-    } else if place < 107 {
-        text_at(place - 30)
-    } else if place < 119 {
-        Some(Operation::Date(date_at(place - 107)))
-    } else {
-        None
-    }
-}
-
 /// What the body at this place of the table does. A place says it without the names there.
 #[tactic(auto, unfolding(crate::specs::inner::Places::operation_by_place))]
 fn operation_by_place(place: u32) -> Option<Operation>
@@ -225,11 +195,11 @@ fn operation_by_place(place: u32) -> Option<Operation>
     } else if place < 136 {
         Some(other_at(place - 120))
     } else {
-        later_at(place - 136)
+        None
     }
 }
 
-/// What the body does, if it is built.
+/// What the body does, if it is one of the integer types or of boolean.
 #[tactic(auto, using(crate::proofs::Places::by_place))]
 pub fn operation_at(body: BodyNo) -> Option<Operation>
     ensures { result ≡ operation_at body }

@@ -1,9 +1,5 @@
 pub mod Called
-pub mod Chosen
-pub mod Connected
 pub mod Lengths
 pub mod Permitted
-pub mod Raised
 pub mod Reading
 pub mod Rest
-pub mod Tested

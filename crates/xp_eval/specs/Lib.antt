@@ -1,4 +1,3 @@
-pub mod inner
 pub mod Permitted
 pub mod Real
 pub mod Sizes

@@ -1,6 +1,4 @@
 pub mod Back
-pub mod Built
-mod Bytes
 pub mod Clean
 pub mod Decimals
 pub mod Digits
@@ -9,4 +7,3 @@ pub mod Lexer
 pub mod Scripts
 pub mod Trimming
 pub mod Widths
-mod Printed
