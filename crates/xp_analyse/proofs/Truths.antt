@@ -7,7 +7,7 @@ use Rattle.xp_catalog.specs.Contents.{Contents}
 use Rattle.xp_catalog.specs.Lookups.{type_named}
 use Rattle.xp_catalog.specs.WellFormed.{IsWellFormed}
 use Rattle.xp_io.specs.Representations.{rep_of}
-use Rattle.xp_meaning.specs.Evaluable.{is_evaluable, is_one_built, is_many_built, all_evaluable}
+use Rattle.xp_meaning.specs.Evaluable.{is_evaluable, is_one_built, is_two_built, is_many_built, all_evaluable, arms_evaluable}
 use Rattle.xp_named.proofs.ArrayTypes.{named_so}
 use Rattle.xp_tree.specs.Rests.{is_represented}
 use Rattle.xp_tree.specs.Term.{Term, case, checked, domain, leaf, many, one, two, type_of}
@@ -22,9 +22,13 @@ use Rattle.xp_analyse.specs.Domains.{has_domain}
 evaluable_represented : (t : Term) → is_evaluable is_built t ≡ true → is_represented (type_of t) ≡ true
 evaluable_represented (leaf l ty) h = h
 evaluable_represented (one o a ty) h = (and_parts (is_one_built o ty) (is_represented ty) (and_parts (is_one_built o ty && is_represented ty) (is_evaluable is_built a) h).0).1
-evaluable_represented (two o a b ty) h = absurd (cc h)
+evaluable_represented (two o a b ty) h =
+    let built = is_two_built is_built o in
+    let all = and_parts (built && is_represented ty && is_evaluable is_built a) (is_evaluable is_built b) h in
+    (and_parts built (is_represented ty) (and_parts (built && is_represented ty) (is_evaluable is_built a) all.0).0).1
 evaluable_represented (many o args ty) h = (and_parts (is_many_built is_built o) (is_represented ty) (and_parts (is_many_built is_built o && is_represented ty) (all_evaluable is_built args) h).0).1
-evaluable_represented (case arms other ty) h = absurd (cc h)
+evaluable_represented (case arms other ty) h =
+    (and_parts (is_represented ty) (arms_evaluable is_built arms) (and_parts (is_represented ty && arms_evaluable is_built arms) (is_evaluable is_built other) h).0).0
 evaluable_represented (domain a number not_null ty) h = (and_parts (is_represented ty) (is_evaluable is_built a) h).0
 evaluable_represented (checked a number not_null check ty) h =
     (and_parts (is_represented ty) (is_evaluable is_built a) (and_parts (is_represented ty && is_evaluable is_built a) (is_evaluable is_built check) h).0).0

@@ -12,6 +12,7 @@ impl Answers for Bodies {
         let (word, rest) = case.split_once(' ').unwrap_or((case, ""));
         match word {
             "call" => calls::calls(alloc, rest),
+            "body" => calls::calls_of_values(alloc, rest),
             "arithmetic" => integers::arithmetic(alloc, rest),
             "signs" => integers::signs(alloc, rest),
             "bits" => integers::bits(alloc, rest),

@@ -1,4 +1,4 @@
-//! `xp_body_cases TABLE..`: the functions of the integer types, calls of their bodies, and values,
+//! `xp_body_cases TABLE..`: the functions of the integer types, calls of bodies, and values,
 //! their order and copies, case by case. It stands on xp_int, xp_call and xp_value; `stdout` is what
 //! the manual's rules say.
 #![tactic(auto)]

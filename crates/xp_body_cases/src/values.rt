@@ -95,7 +95,7 @@ fn value(alloc: Global, text: &str) -> Result<Value> {
 }
 
 /// The values of a case, with ` | ` between.
-fn values(alloc: Global, text: &str) -> Result<Items<Value>> {
+pub fn values(alloc: Global, text: &str) -> Result<Items<Value>> {
     let mut values = Items::new(alloc);
     for part in text.split(" | ") {
         values.push(value(alloc, part)?)?;

@@ -1,1 +1,4 @@
+pub mod Answered
+pub mod Extracted
 pub mod Places
+pub mod Trimmed

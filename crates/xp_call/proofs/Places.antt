@@ -1,5 +1,5 @@
 -- The place of a body says what its name says.
-use Rattle.std.proofs.Common.{◌≡◌, ℕ, zero, suc, ◌<◌, ◌≤◌, ◌+◌, List, [], ◌∷◌, false, nat_lt, Option, None, length, map, refl, sym, ap, ◌∙◌, arith, lit<}
+use Rattle.std.proofs.Common.{◌≡◌, ℕ, zero, suc, ◌<◌, ◌≤◌, ◌+◌, ◌-◌, List, [], ◌∷◌, false, nat_lt, Option, None, length, map, refl, sym, ap, ◌∙◌, arith, lit<}
 use Rattle.std.proofs.lemmas.Bool.{le-ltb}
 use Rattle.std.specs.List.{slice_get}
 use Rattle.std.specs.Option.{option_and_then}
@@ -8,6 +8,7 @@ use Rattle.xp_bodies.specs.Row.{Row}
 use Rattle.xp_bodies.specs.Table.{arithmetic, arrays, bodies, comparisons, dates, edits, integers, numerics, ranges, texts}
 use Rattle.xp_call.specs.Operations.{operation_at, operation_named, operations}
 use Rattle.xp_call.specs.inner.Places.{operation_by_place}
+use Rattle.xp_call.specs.inner.TextPlaces.{text_at}
 use Rattle.xp_call.specs.declared.operations.Operation.{Operation}
 
 -- the places of the elements, from this one on
@@ -20,7 +21,7 @@ named row = operation_named row.name
 
 -- by computation, over the whole table
 table_by_place : map named bodies ≡ map operation_by_place (places 0 bodies)
-unfolding bodies arithmetic comparisons integers numerics texts edits dates arrays ranges operations operation_named operation_by_place
+unfolding bodies arithmetic comparisons integers numerics texts edits dates arrays ranges operations operation_named operation_by_place text_at
 table_by_place = refl
 
 -- behind the last element nothing is said
@@ -36,18 +37,21 @@ placed f g (x ∷ xs) first (suc i) e past =
     let tail : map f xs ≡ map g (places (first + 1) xs) = cc in
     ap g same ∙ placed f g xs (first + 1) i tail (λ k h. past k (omega arith))
 
-enough : 135 < length bodies
+enough : 254 < length bodies
 unfolding bodies arithmetic comparisons integers numerics texts edits dates arrays ranges
 enough = lit< tt
 
-none_from : (k : ℕ) → 136 ≤ k → operation_by_place k ≡ None
+none_from : (k : ℕ) → 255 ≤ k → operation_by_place k ≡ None
 unfolding operation_by_place
 none_from k h =
     let a : nat_lt k 36 ≡ false = le-ltb k 36 (omega arith) in
     let b : nat_lt k 90 ≡ false = le-ltb k 90 (omega arith) in
     let c : nat_lt k 120 ≡ false = le-ltb k 120 (omega arith) in
-    let d : nat_lt k 136 ≡ false = le-ltb k 136 h in
-    rw (a, b, c, d) refl
+    let d : nat_lt k 136 ≡ false = le-ltb k 136 (omega arith) in
+    let e : nat_lt (k - 136) 30 ≡ false = le-ltb (k - 136) 30 (omega arith) in
+    let f : nat_lt (k - 136) 107 ≡ false = le-ltb (k - 136) 107 (omega arith) in
+    let g : nat_lt (k - 136) 119 ≡ false = le-ltb (k - 136) 119 (omega arith) in
+    rw (a, b, c, d, e, f, g) refl
 
 pub by_place : (body : BodyNo) → operation_by_place body.0 ≡ operation_at body
 unfolding operation_at

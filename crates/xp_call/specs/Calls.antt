@@ -5,7 +5,7 @@ use Rattle.xp_base.specs.declared.codes.EvalError.{EvalError}
 use Rattle.xp_base.specs.declared.codes.EvalError.TheVariants.{Limit}
 use Rattle.xp_base.specs.declared.numbers.BodyNo.{BodyNo}
 use Rattle.xp_value.specs.declared.value.Value.{Value}
-use Rattle.xp_call.specs.Integers.{applied}
+use Rattle.xp_call.specs.Applied.{applied}
 use Rattle.xp_call.specs.Operations.{operation_at}
 use Rattle.xp_call.specs.declared.fault.CallFault.{CallFault}
 use Rattle.xp_call.specs.declared.fault.CallFault.TheVariants as fault

@@ -1,4 +1,12 @@
+pub mod Applied
+pub mod Arguments
+pub mod Bytes
 pub mod Calls
+pub mod Dates
 pub mod Integers
+pub mod MadeTexts
+pub mod Numerics
 pub mod Operations
+pub mod Texts
+pub mod Words
 pub mod inner

@@ -1,4 +1,4 @@
--- Which body of the table does what: the name of each operation on integers and truth values (manual 9.1 to 9.4).
+-- Which body of the table does what: the name of each operation (manual 9.1 to 9.5, 9.7, 9.9).
 use Rattle.std.specs.Prelude.{ℕ, List, [], ◌∷◌, ◌++◌, Option, map, codes, slice_get}
 use Rattle.std.specs.List.{find, flat_map}
 use Rattle.std.specs.Option.{option_and_then}
@@ -7,31 +7,22 @@ use Rattle.xp_base.specs.declared.numbers.BodyNo.{BodyNo}
 use Rattle.xp_bodies.specs.Row.{name_of}
 use Rattle.xp_bodies.specs.Table.{bodies}
 use Rattle.xp_call.specs.declared.operations.IntType.{IntType}
-use Rattle.xp_call.specs.declared.operations.IntType.TheVariants.{Int2, Int4, Int8}
 use Rattle.xp_call.specs.declared.operations.Binary.{Binary}
 use Rattle.xp_call.specs.declared.operations.Binary.TheVariants as binary
 use Rattle.xp_call.specs.declared.operations.Unary.{Unary}
 use Rattle.xp_call.specs.declared.operations.Unary.TheVariants as unary
 use Rattle.xp_call.specs.declared.operations.Shift.{Shift}
 use Rattle.xp_call.specs.declared.operations.Shift.TheVariants as shift
-use Rattle.xp_call.specs.declared.operations.Comparison.{Comparison}
-use Rattle.xp_call.specs.declared.operations.Comparison.TheVariants as comparison
 use Rattle.xp_call.specs.declared.operations.Operation.{Operation}
 use Rattle.xp_call.specs.declared.operations.Operation.TheVariants as operation
-
--- the type that has all numbers of both
-abbrev pub wider : IntType → IntType → IntType
-wider Int2 b = b
-wider Int4 Int8 = Int8
-wider Int4 b = Int4
-wider Int8 b = Int8
+use Rattle.xp_call.specs.Bytes as byte_strings
+use Rattle.xp_call.specs.Dates.{date_name, date_operations}
+use Rattle.xp_call.specs.MadeTexts as made_texts
+use Rattle.xp_call.specs.Numerics.{numeric_name, numeric_operations}
+use Rattle.xp_call.specs.Texts.{text_name, text_operations}
+use Rattle.xp_call.specs.Words.{comparison_word, comparisons, int_types, type_name}
 
 -- ---- names
-
-abbrev pub type_name : IntType → List ℕ
-type_name Int2 = codes "int2"
-type_name Int4 = codes "int4"
-type_name Int8 = codes "int8"
 
 abbrev pub binary_word : Binary → List ℕ
 binary_word binary.Add = codes "add"
@@ -53,14 +44,6 @@ abbrev pub shift_word : Shift → List ℕ
 shift_word shift.Left = codes "shl"
 shift_word shift.Right = codes "shr"
 
-abbrev pub comparison_word : Comparison → List ℕ
-comparison_word comparison.Equal = codes "eq"
-comparison_word comparison.NotEqual = codes "ne"
-comparison_word comparison.Less = codes "lt"
-comparison_word comparison.AtMost = codes "le"
-comparison_word comparison.Greater = codes "gt"
-comparison_word comparison.AtLeast = codes "ge"
-
 -- the name of the body that does it: its word and the types of its arguments
 abbrev pub operation_name : Operation → List ℕ
 operation_name (operation.Binary word a b) = name_of (binary_word word) (type_name a ∷ type_name b ∷ [])
@@ -73,11 +56,14 @@ operation_name operation.BoolOfInt4 = codes "bool_int4"
 operation_name operation.Int4OfBool = codes "int4_bool"
 operation_name operation.HexOfInt4 = codes "to_hex_int4"
 operation_name operation.HexOfInt8 = codes "to_hex_int8"
+operation_name (operation.Numeric word) = numeric_name word
+operation_name (operation.Text word) = text_name word
+operation_name (operation.MakeText word) = made_texts.making_name word
+operation_name (operation.Bytes word) = byte_strings.bytes_name word
+operation_name (operation.MakeBytes word) = byte_strings.making_name word
+operation_name (operation.Date word) = date_name word
 
 -- ---- all operations
-
-abbrev pub int_types : List IntType
-int_types = Int2 ∷ Int4 ∷ Int8 ∷ []
 
 abbrev pub over_one : (IntType → Operation) → List Operation
 over_one f = map f int_types
@@ -91,9 +77,6 @@ binaries = binary.Add ∷ binary.Subtract ∷ binary.Multiply ∷ binary.Divide 
 abbrev pub unaries : List Unary
 unaries = unary.Not ∷ unary.Negate ∷ unary.Plus ∷ unary.Absolute ∷ []
 
-abbrev pub comparisons : List Comparison
-comparisons = comparison.Equal ∷ comparison.NotEqual ∷ comparison.Less ∷ comparison.AtMost ∷ comparison.Greater ∷ comparison.AtLeast ∷ []
-
 -- over every types, some of which no body takes
 unfoldable pub operations : List Operation
 operations =
@@ -104,6 +87,12 @@ operations =
     ++ map operation.CompareBools comparisons
     ++ over_two operation.Cast
     ++ operation.BoolOfInt4 ∷ operation.Int4OfBool ∷ operation.HexOfInt4 ∷ operation.HexOfInt8 ∷ []
+    ++ map operation.Numeric numeric_operations
+    ++ map operation.Text text_operations
+    ++ map operation.MakeText made_texts.text_makings
+    ++ map operation.Bytes byte_strings.bytes_operations
+    ++ map operation.MakeBytes byte_strings.bytes_makings
+    ++ map operation.Date date_operations
 
 -- the operation whose body has that name
 unfoldable pub operation_named : List ℕ → Option Operation

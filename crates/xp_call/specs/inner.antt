@@ -1,1 +1,4 @@
+pub mod Answers
+pub mod Comparisons
 pub mod Places
+pub mod TextPlaces

@@ -1,13 +1,17 @@
 //! Calls of bodies.
-ghost use Rattle.std.specs.Prelude.{◌≡◌, IfSome, true};
-ghost use Rattle.xp_int.specs.Integers.{bits};
-ghost use Rattle.xp_value.specs.Representation.{has_bits};
+ghost use Rattle.std.specs.Prelude.{◌≡◌};
+ghost use Rattle.xp_call.specs.Applied.{applied};
 ghost use Rattle.xp_call.specs.Calls.{Calls, body_outcome, is_built};
-ghost use Rattle.xp_call.specs.Integers.{applied, bool_in, integer_in, type_of};
 
+use crate::arguments::{integer, truth};
+use crate::bytes::{call_bytes, make_bytes};
+use crate::dates::call_date;
 use crate::fault::CallFault;
 use crate::integers::{binary, cast, compare, compare_bools, shift, unary};
+use crate::made_texts::make_text;
+use crate::numerics::call_numeric;
 use crate::operations::{Binary, Comparison, IntType, Operation, Shift, Unary, operation_at};
+use crate::texts::call_text;
 use std::alloc::Global;
 use xp_base::{BodyNo, EvalError};
 use xp_int::{bool_int4, int4_bool, to_hex_int4, to_hex_int8};
@@ -18,37 +22,6 @@ pub fn is_built(body: BodyNo) -> bool
     ensures { result ≡ is_built body }
 {
     operation_at(body).is_some()
-}
-
-/// Whether the type has the number.
-fn has(ty: IntType, number: i64) -> bool
-    ensures { result ≡ has_bits (bits (type_of ty)) number }
-{
-    match ty {
-        IntType::Int2 => i16::try_from(number).is_ok(),
-        IntType::Int4 => i32::try_from(number).is_ok(),
-        IntType::Int8 => true,
-    }
-}
-
-/// The number, where the value is one of the type.
-fn integer(ty: IntType, value: &Value) -> Option<i64>
-    ensures value { result ≡ integer_in ty value.now }
-    ensures within { IfSome result (λ n. has_bits (bits (type_of ty)) n ≡ true) }
-{
-    match value {
-        Value::Int(number) if has(ty, *number) => Some(*number),
-        _ => None,
-    }
-}
-
-fn truth(value: &Value) -> Option<bool>
-    ensures { result ≡ bool_in value.now }
-{
-    match value {
-        Value::Bool(truth) => Some(*truth),
-        _ => None,
-    }
 }
 
 fn call_binary(word: Binary, a: IntType, b: IntType, args: &[Value]) -> Result<Value, EvalError>
@@ -191,6 +164,12 @@ fn apply(alloc: Global, operation: Operation, args: &[Value]) -> Result<Value, C
         Operation::Int4OfBool => call_int4_of_bool(args),
         Operation::HexOfInt4 => return call_hex_of_int4(alloc, args),
         Operation::HexOfInt8 => return call_hex_of_int8(alloc, args),
+        Operation::Numeric(word) => call_numeric(word, args),
+        Operation::Text(word) => call_text(word, args),
+        Operation::MakeText(word) => return make_text(alloc, word, args),
+        Operation::Bytes(word) => call_bytes(word, args),
+        Operation::MakeBytes(word) => return make_bytes(alloc, word, args),
+        Operation::Date(word) => call_date(word, args),
     };
     outcome.map_err(CallFault::Raised)
 }

@@ -3,7 +3,8 @@ ghost use Rattle.std.specs.Prelude.{◌≡◌, true};
 ghost use Rattle.std.specs.Ordering.{bool_cmp, int_cmp};
 ghost use Rattle.xp_int.specs.Integers.{bits, int2, int4, int8, within};
 ghost use Rattle.xp_value.specs.Representation.{has_bits};
-ghost use Rattle.xp_call.specs.Integers.{binary_of, holds, number, shift_of, type_of, unary_of};
+ghost use Rattle.xp_call.specs.Arguments.{holds, number, type_of};
+ghost use Rattle.xp_call.specs.Integers.{binary_of, shift_of, unary_of};
 
 use crate::operations::{Binary, Comparison, IntType, Shift, Unary};
 use xp_base::EvalError;

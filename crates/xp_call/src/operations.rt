@@ -1,9 +1,16 @@
-//! What the bodies of the integer types and of boolean do, and which body does what (manual 9.1 to
-//! 9.4).
+//! What the bodies do, and which body does what (manual 9.1 to 9.5, 9.7, 9.9).
 ghost use Rattle.std.specs.Prelude.{◌≡◌, ◌<◌};
-ghost use Rattle.xp_call.specs.Operations.{operation_at, wider};
+ghost use Rattle.xp_call.specs.Integers.{wider};
+ghost use Rattle.xp_call.specs.Operations.{operation_at};
+ghost use Rattle.xp_call.specs.inner.Comparisons.{comparison_word as comparison_of};
 ghost use Rattle.xp_call.specs.inner.Places as places;
 
+use crate::bytes::{BytesMaking, BytesOperation};
+use crate::dates::{DateOperation, date_at};
+use crate::made_texts::TextMaking;
+use crate::numerics::{NumericOperation, numeric_at};
+use crate::text_places::text_at;
+use crate::texts::TextOperation;
 use xp_base::BodyNo;
 
 /// An integer type.
@@ -84,9 +91,16 @@ pub enum Operation {
     Int4OfBool,
     HexOfInt4,
     HexOfInt8,
+    Numeric(NumericOperation),
+    Text(TextOperation),
+    MakeText(TextMaking),
+    Bytes(BytesOperation),
+    MakeBytes(BytesMaking),
+    Date(DateOperation),
 }
 
-fn int_type_at(place: u32) -> IntType
+/// The integer type at a place among the three.
+pub fn int_type_at(place: u32) -> IntType
     ensures { result ≡ places.int_type_at place }
 {
     match place {
@@ -108,8 +122,9 @@ fn arithmetic_word(place: u32) -> Binary
     }
 }
 
-fn comparison_word(place: u32) -> Comparison
-    ensures { result ≡ places.comparison_word place }
+/// The comparison at a place among the six.
+pub fn comparison_word(place: u32) -> Comparison
+    ensures { result ≡ comparison_of place }
 {
     match place {
         0 => Comparison::Equal,
@@ -181,6 +196,21 @@ fn other_at(place: u32) -> Operation
     }
 }
 
+/// Numerics, texts and byte strings, dates.
+fn later_at(place: u32) -> Option<Operation>
+    ensures { result ≡ places.later_at place }
+{
+    if place < 30 {
+        Some(Operation::Numeric(numeric_at(place)))
+    } else if place < 107 {
+        text_at(place - 30)
+    } else if place < 119 {
+        Some(Operation::Date(date_at(place - 107)))
+    } else {
+        None
+    }
+}
+
 /// What the body at this place of the table does. A place says it without the names there.
 #[tactic(auto, unfolding(crate::specs::inner::Places::operation_by_place))]
 fn operation_by_place(place: u32) -> Option<Operation>
@@ -195,11 +225,11 @@ fn operation_by_place(place: u32) -> Option<Operation>
     } else if place < 136 {
         Some(other_at(place - 120))
     } else {
-        None
+        later_at(place - 136)
     }
 }
 
-/// What the body does, if it is one of the integer types or of boolean.
+/// What the body does, if it is built.
 #[tactic(auto, using(crate::proofs::Places::by_place))]
 pub fn operation_at(body: BodyNo) -> Option<Operation>
     ensures { result ≡ operation_at body }

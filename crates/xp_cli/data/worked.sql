@@ -83,8 +83,8 @@ SELECT qty + 'five';
 SELECT 7 / '9999999999';
 SELECT bool 'maybe';
 SELECT 100000000000000000000000000000000000000;
-SELECT total + 1;
-SELECT id, upper(customer);
+SELECT total ^ 2;
+SELECT id, concat(paid, 1);
 SELECT float8 '1.5';
 SELECT concat(1,1,1,1,1,1,1,1,1,1,1,1,1,1,1,1,1,1,1,1,1,1,1,1,1,1,1,1,1,1,1,1,1,1,1,1,1,1,1,1,1,1,1,1,1,1,1,1,1,1,1,1,1,1,1,1,1,1,1,1,1,1,1,1,1,1,1,1,1,1,1,1,1,1,1,1,1,1,1,1,1,1,1,1,1,1,1,1,1,1,1,1,1,1,1,1,1,1,1,1,1);
 
@@ -112,6 +112,14 @@ STORE int4 FROM '0x10';
 STORE bool FROM qty;
 STORE int4 FROM 'five';
 
--- ---- A text without end (77), which ends the script.
+-- ---- Numbers with decimals, texts and dates over the rows (77 to 82).
+SELECT id, total * qty, round(total / 3, 2), total > 100;
+SELECT upper(customer), length(customer), customer || ' #' || id, left(customer, 3);
+SELECT customer ~~ '%o%', strpos(customer, ','), SUBSTRING(customer FROM 2 FOR 2), TRIM(LEADING 'A' FROM customer);
+SELECT paid + 30, date '2024-03-31' - paid, EXTRACT(month FROM paid), paid > '2024-03-01';
+SELECT total::numeric(5,1), total::int4, total::text;
+STORE numeric(5,2) FROM total;
+
+-- ---- A text without end (83), which ends the script.
 SELECT 'never closed;
 SELECT 1;

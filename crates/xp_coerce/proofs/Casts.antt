@@ -19,7 +19,6 @@ use Rattle.xp_catalog.specs.WellFormed.{IsBuilt}
 use Rattle.xp_catalog.specs.WellFormed.IsBuilt.{nothing, more}
 use Rattle.xp_catalog.proofs.Keeps.{Keeps, keeps-each, known-within}
 use Rattle.xp_tree.specs.Typed.{is_relabelled, may_be_text}
-use Rattle.xp_io.specs.Representations.{built}
 use Rattle.xp_value.specs.Names.{rep_named}
 use Rattle.xp_coerce.proofs.Tests.{opaque_relabels, relabels_to_opaque, texts_relabel}
 use Rattle.xp_coerce.proofs.Growing.{IsGrown, casts_later, grown_added, kept, kept_later, longer}

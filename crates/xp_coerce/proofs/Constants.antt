@@ -13,8 +13,6 @@ use Rattle.xp_value.specs.declared.value.Rep.TheVariants as rep
 use Rattle.xp_value.specs.declared.value.Value.{Value}
 use Rattle.xp_value.specs.declared.value.Value.TheVariants as value
 use Rattle.xp_value.specs.Representation.{has, is_of, is_within_limits, plain}
-use Rattle.xp_catalog.specs.declared.rows.TypeKind.{TypeKind}
-use Rattle.xp_catalog.specs.declared.rows.TypeKind.TheVariants as kind
 use Rattle.xp_catalog.specs.Contents.{Contents, unknown_row}
 use Rattle.xp_catalog.specs.Rules.{kind_of, name_of}
 use Rattle.xp_catalog.specs.WellFormed.{IsWellFormed}
@@ -23,71 +21,45 @@ use Rattle.xp_tree.specs.Typed as typed
 use Rattle.xp_io.specs.declared.reading.InFault.{InFault}
 use Rattle.xp_io.specs.declared.reading.InFault.TheVariants as fault
 use Rattle.xp_io.specs.Forms.{Reads}
-use Rattle.xp_io.specs.Representations.{built, rep_by, shape_of}
-use Rattle.xp_value.specs.Names.{rep_named}
+use Rattle.xp_io.specs.Representations.{is_built, rep_of, shape_of}
+use Rattle.xp_io.proofs.Built.{kind_built}
 use Rattle.xp_coerce.specs.Coerced.{bad_literal, constant_of, is_memory}
 use Rattle.xp_coerce.specs.Types.{node_type}
 use Rattle.xp_coerce.specs.inner.Faults.{fault_of}
 use Rattle.xp_coerce.proofs.Growing.{unknown_first}
 use Rattle.xp_coerce.proofs.Paths.{unknown_kept}
 
-built_shape : (element r : Rep) → typed.shape_with element (built r) ≡ plain (built r)
-built_shape element rep.Bool = refl
-built_shape element rep.Int2 = refl
-built_shape element rep.Int4 = refl
-built_shape element rep.Int8 = refl
-built_shape element rep.Num = refl
-built_shape element rep.Text = refl
-built_shape element rep.Pad = refl
-built_shape element rep.Bytes = refl
-built_shape element rep.Day = refl
-built_shape element rep.Arr = refl
-built_shape element rep.Int4Range = refl
-built_shape element rep.Int8Range = refl
-built_shape element rep.DateRange = refl
-built_shape element rep.Opaque = refl
-
-kind_shape : (element : Rep) (k : TypeKind) (name : List ℕ) → typed.shape_with element (rep_by k name) ≡ plain (rep_by k name)
-kind_shape element kind.Plain name = built_shape element (rep_named name)
-kind_shape element (kind.Pseudo pseudo) name = refl
-kind_shape element (kind.Array of) name = refl
-kind_shape element (kind.Range number) name = refl
-kind_shape element (kind.Domain number) name = refl
+built_shape : (element r : Rep) → is_built r ≡ true → typed.shape_with element r ≡ plain r
+built_shape element rep.Bool is = refl
+built_shape element rep.Int2 is = refl
+built_shape element rep.Int4 is = refl
+built_shape element rep.Int8 is = refl
+built_shape element rep.Num is = refl
+built_shape element rep.Text is = refl
+built_shape element rep.Pad is = refl
+built_shape element rep.Bytes is = refl
+built_shape element rep.Day is = refl
+built_shape element rep.Arr is = cc is
+built_shape element rep.Int4Range is = cc is
+built_shape element rep.Int8Range is = cc is
+built_shape element rep.DateRange is = cc is
+built_shape element rep.Opaque is = refl
 
 -- a node's values are kept as the text forms say
 pub node_shape : (c : Contents) (type : TypeNo) → typed.shape_of (node_type c type) ≡ shape_of c type
-node_shape c type = kind_shape (node_type c type).element (kind_of c (base c type)) (name_of c (base c type))
+node_shape c type = built_shape (node_type c type).element (rep_of c type) (kind_built (kind_of c (base c type)) (name_of c (base c type)))
 
 -- what is read may stand in a constant
 pub read_fits : (c : Contents) (type : TypeNo) (v : Value) → is_of (shape_of c type) v ≡ true → is_of (typed.shape_of (node_type c type)) v ≡ true
 read_fits c type v fits = rw (node_shape c type) fits
 
-null_built : (r : Rep) → is_of (plain (built r)) value.Null ≡ true
-null_built rep.Bool = refl
-null_built rep.Int2 = refl
-null_built rep.Int4 = refl
-null_built rep.Int8 = refl
-null_built rep.Num = refl
-null_built rep.Text = refl
-null_built rep.Pad = refl
-null_built rep.Bytes = refl
-null_built rep.Day = refl
-null_built rep.Arr = refl
-null_built rep.Int4Range = refl
-null_built rep.Int8Range = refl
-null_built rep.DateRange = refl
-null_built rep.Opaque = refl
-
-null_kept : (k : TypeKind) (name : List ℕ) → is_of (plain (rep_by k name)) value.Null ≡ true
-null_kept kind.Plain name = null_built (rep_named name)
-null_kept (kind.Pseudo pseudo) name = refl
-null_kept (kind.Array of) name = refl
-null_kept (kind.Range number) name = refl
-null_kept (kind.Domain number) name = refl
+-- null is of every representation
+null_kept : (r : Rep) → is_of (plain r) value.Null ≡ true
+null_kept r = refl
 
 -- and so may null
 pub null_fits : (c : Contents) (type : TypeNo) → is_of (typed.shape_of (node_type c type)) value.Null ≡ true
-null_fits c type = read_fits c type value.Null (null_kept (kind_of c (base c type)) (name_of c (base c type)))
+null_fits c type = read_fits c type value.Null (null_kept (rep_of c type))
 
 -- a literal's value is null or a text
 pub literal_value : (c : Contents) (v : Value) → IsWellFormed c → is_of (typed.shape_of (node_type c unknown)) v ≡ true → has (plain rep.Opaque) v ≡ true

@@ -6,7 +6,6 @@ use Rattle.xp_value.specs.declared.value.Rep.TheVariants as rep
 use Rattle.xp_catalog.specs.Spelling.{is_among, is_letter_of, plain_names, text_names}
 use Rattle.xp_tree.specs.declared.parts.Modifier.TheVariants as modifier
 use Rattle.xp_tree.specs.Typed.{is_sized, may_be_text}
-use Rattle.xp_io.specs.Representations.{built}
 use Rattle.xp_value.specs.Names.{rep_named}
 use Rattle.xp_named.specs.Modifiers.{fits_sizing, sizing_named}
 
@@ -56,21 +55,21 @@ no_plain name = of_name (λ n. is_among plain_names n ≡ false → rep_named n 
     (λ opaque h. opaque)
 
 -- a text's name is that of a text
-pub text_named : (name : List ℕ) → is_among text_names name ≡ true → may_be_text (built (rep_named name)) ≡ true
-text_named name = of_name (λ n. is_among text_names n ≡ true → may_be_text (built (rep_named n)) ≡ true) name
-    (record { bool = λ h. cc h; int2 = λ h. cc h; int4 = λ h. cc h; int8 = λ h. cc h; numeric = λ h. refl; text = λ h. refl; varchar = λ h. refl; bpchar = λ h. refl; bytea = λ h. refl; date = λ h. refl })
+pub text_named : (name : List ℕ) → is_among text_names name ≡ true → may_be_text (rep_named name) ≡ true
+text_named name = of_name (λ n. is_among text_names n ≡ true → may_be_text (rep_named n) ≡ true) name
+    (record { bool = λ h. cc h; int2 = λ h. cc h; int4 = λ h. cc h; int8 = λ h. cc h; numeric = λ h. cc h; text = λ h. refl; varchar = λ h. refl; bpchar = λ h. refl; bytea = λ h. cc h; date = λ h. cc h })
     (λ opaque h. rw opaque refl)
 
 -- and so is that of a type which takes a length
-pub sized_named : (name : List ℕ) → is_among sized_names name ≡ true → may_be_text (built (rep_named name)) ≡ true
-sized_named name = of_name (λ n. is_among sized_names n ≡ true → may_be_text (built (rep_named n)) ≡ true) name
-    (record { bool = λ h. cc h; int2 = λ h. cc h; int4 = λ h. cc h; int8 = λ h. cc h; numeric = λ h. refl; text = λ h. refl; varchar = λ h. refl; bpchar = λ h. refl; bytea = λ h. refl; date = λ h. refl })
+pub sized_named : (name : List ℕ) → is_among sized_names name ≡ true → may_be_text (rep_named name) ≡ true
+sized_named name = of_name (λ n. is_among sized_names n ≡ true → may_be_text (rep_named n) ≡ true) name
+    (record { bool = λ h. cc h; int2 = λ h. cc h; int4 = λ h. cc h; int8 = λ h. cc h; numeric = λ h. cc h; text = λ h. refl; varchar = λ h. refl; bpchar = λ h. refl; bytea = λ h. cc h; date = λ h. cc h })
     (λ opaque h. rw opaque refl)
 
 -- a type of category S (83) is a text, or isn't represented
-pub string_named : (name : List ℕ) → is_letter_of name 83 ≡ true → may_be_text (built (rep_named name)) ≡ true
-string_named name = of_name (λ n. is_letter_of n 83 ≡ true → may_be_text (built (rep_named n)) ≡ true) name
-    (record { bool = λ h. cc h; int2 = λ h. cc h; int4 = λ h. cc h; int8 = λ h. cc h; numeric = λ h. refl; text = λ h. refl; varchar = λ h. refl; bpchar = λ h. refl; bytea = λ h. refl; date = λ h. refl })
+pub string_named : (name : List ℕ) → is_letter_of name 83 ≡ true → may_be_text (rep_named name) ≡ true
+string_named name = of_name (λ n. is_letter_of n 83 ≡ true → may_be_text (rep_named n) ≡ true) name
+    (record { bool = λ h. cc h; int2 = λ h. cc h; int4 = λ h. cc h; int8 = λ h. cc h; numeric = λ h. cc h; text = λ h. refl; varchar = λ h. refl; bpchar = λ h. refl; bytea = λ h. cc h; date = λ h. cc h })
     (λ opaque h. rw opaque refl)
 
 -- the types that take a modifier are plain
@@ -83,8 +82,8 @@ sized_plain name =
 pub digits_plain : (name : List ℕ) → bytes_eq name (codes "numeric") ≡ true → is_among plain_names name ≡ false → ⊥
 digits_plain name = is_word (λ n. bytes_eq n (codes "numeric") ≡ true → is_among plain_names n ≡ false → ⊥) name (codes "numeric") (λ h k. cc k) (λ no h k. cc (no, h))
 
-pub digits_named : (name : List ℕ) (p s : ℕ) → bytes_eq name (codes "numeric") ≡ true → is_sized (built (rep_named name)) (modifier.Digits p s) ≡ true
-digits_named name p s = is_word (λ n. bytes_eq n (codes "numeric") ≡ true → is_sized (built (rep_named n)) (modifier.Digits p s) ≡ true) name (codes "numeric") (λ h. refl) (λ no h. cc (no, h))
+pub digits_named : (name : List ℕ) (p s : ℕ) → bytes_eq name (codes "numeric") ≡ true → is_sized (rep_named name) (modifier.Digits p s) ≡ true
+digits_named name p s = is_word (λ n. bytes_eq n (codes "numeric") ≡ true → is_sized (rep_named n) (modifier.Digits p s) ≡ true) name (codes "numeric") (λ h. refl) (λ no h. cc (no, h))
 
 -- a type that takes a length is one of those
 pub length_name : (name : List ℕ) (n : ℕ) → fits_sizing (sizing_named name) (modifier.Length n) ≡ true → is_among sized_names name ≡ true

@@ -22,7 +22,7 @@ use Rattle.xp_bodies.specs.Row.{Row}
 use Rattle.xp_bodies.specs.Table.{bodies}
 use Rattle.xp_tree.specs.declared.parts.NodeType.{NodeType}
 use Rattle.xp_tree.specs.Rests.{Rests, RestsOn, RestsOnBody, element_reps, fit_each, fit_row, is_represented}
-use Rattle.xp_io.specs.Representations.{built, rep_by}
+use Rattle.xp_io.specs.Representations.{rep_by}
 use Rattle.xp_value.specs.Names.{rep_named}
 use Rattle.xp_coerce.specs.Ways.{func_callee}
 use Rattle.xp_coerce.proofs.Growing.{all_at, kept}
@@ -32,7 +32,7 @@ use Rattle.xp_coerce.proofs.Names.{of_name}
 -- ---- a value of a type may stand where a body declares its name
 
 abbrev FitsName : List ℕ → Type 0
-FitsName name = (ty : NodeType) → ty.rep ≡ built (rep_named name) → is_represented ty ≡ true → list_any (λ element. fit_each element (name ∷ []) (ty ∷ [])) element_reps ≡ true
+FitsName name = (ty : NodeType) → ty.rep ≡ rep_named name → is_represented ty ≡ true → list_any (λ element. fit_each element (name ∷ []) (ty ∷ [])) element_reps ≡ true
 
 fits_name : (name : List ℕ) → FitsName name
 fits_name name = of_name FitsName name
@@ -41,14 +41,14 @@ fits_name name = of_name FitsName name
       int2 = λ ty is some. rw is refl;
       int4 = λ ty is some. rw is refl;
       int8 = λ ty is some. rw is refl;
-      numeric = λ ty is some. let never : false ≡ true = rw is at some in cc never;
+      numeric = λ ty is some. rw is refl;
       text = λ ty is some. rw is refl;
       varchar = λ ty is some. rw is refl;
       bpchar = λ ty is some. rw is refl;
-      bytea = λ ty is some. let never : false ≡ true = rw is at some in cc never;
-      date = λ ty is some. let never : false ≡ true = rw is at some in cc never;
+      bytea = λ ty is some. rw is refl;
+      date = λ ty is some. rw is refl;
     })
-    (λ opaque ty is some. let none : ty.rep ≡ rep.Opaque = is ∙ ap built opaque in let never : false ≡ true = rw none at some in cc never)
+    (λ opaque ty is some. let none : ty.rep ≡ rep.Opaque = is ∙ opaque in let never : false ≡ true = rw none at some in cc never)
 
 pub not_shown : (ty : NodeType) → ty.rep ≡ rep.Opaque → is_represented ty ≡ true → ⊥
 not_shown ty is some = let never : false ≡ true = rw is at some in cc never

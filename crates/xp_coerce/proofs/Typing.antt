@@ -25,7 +25,7 @@ use Rattle.xp_tree.specs.Term.{Term, elements, one, type_of}
 use Rattle.xp_tree.specs.Typed.{Converts, IsArray, IsTyped, element_of}
 use Rattle.xp_tree.specs.Typed as typed
 use Rattle.xp_catalog.specs.Spelling.{is_among, plain_names}
-use Rattle.xp_io.specs.Representations.{built, element_rep, rep_of}
+use Rattle.xp_io.specs.Representations.{element_rep, rep_of}
 use Rattle.xp_value.specs.Names.{rep_named}
 use Rattle.xp_coerce.specs.declared.fault.CoerceFault.{CoerceFault}
 use Rattle.xp_named.specs.Modifiers.{fits_sizing, sizing_named, takes_modifier}
@@ -102,7 +102,7 @@ opaque_sized modifier.None = refl
 opaque_sized (modifier.Length n) = refl
 opaque_sized (modifier.Digits p s) = refl
 
-name_sized : (name : List ℕ) (m : Modifier) → fits_sizing (sizing_named name) m ≡ true → typed.is_sized (built (rep_named name)) m ≡ true
+name_sized : (name : List ℕ) (m : Modifier) → fits_sizing (sizing_named name) m ≡ true → typed.is_sized (rep_named name) m ≡ true
 name_sized name modifier.None is = refl
 name_sized name (modifier.Length n) is = sized_named name (length_name name n is)
 name_sized name (modifier.Digits p s) is = digits_named name p s (digits_name name p s is)

@@ -1,5 +1,5 @@
 //! The text of a date, and the date that a text is.
-ghost use Rattle.std.specs.Prelude.{◌≡◌, [], ◌∷◌, ◌++◌, ◌<◌, IfSome, OnErr, OnOk, true};
+ghost use Rattle.std.specs.Prelude.{◌≡◌, [], ◌∷◌, ◌++◌, ◌<◌, IfOk, IfSome, OnErr, OnOk, true};
 ghost use Rattle.xp_date.specs.Texts.{date_in, digit, four_digits, made_of, number_in, text, two_digits};
 ghost use Rattle.xp_value.specs.Representation.{is_date};
 
@@ -28,7 +28,8 @@ fn of_four(a: u8, b: u8, c: u8, d: u8) -> Option<u16>
 
 /// The day with these parts, where they are numbers.
 fn made_of(year: Option<u16>, month: Option<u8>, day: Option<u8>) -> Result<i32, EvalError>
-    ensures { result ≡ made_of year month day }
+    ensures years { IfOk result (λ day. is_date day ≡ true) }
+    ensures value { result ≡ made_of year month day }
 {
     match (year, month, day) {
         (Some(year), Some(month), Some(day)) => {
@@ -40,7 +41,8 @@ fn made_of(year: Option<u16>, month: Option<u8>, day: Option<u8>) -> Result<i32,
 
 /// The day that a text without white space at its ends is.
 pub fn read_date(text: &[u8]) -> Result<i32, EvalError>
-    ensures { result ≡ date_in text.now }
+    ensures value { result ≡ date_in text.now }
+    ensures years { IfOk result (λ day. is_date day ≡ true) }
 {
     if text.len() != 10 || text[4] != b'-' || text[7] != b'-' {
         return Err(EvalError::BadDate);

@@ -1,20 +1,23 @@
 -- Outcomes one after the other, and what is answered of them.
-use Rattle.std.proofs.Common.{◌≡◌, ◌<◌, ◌≤◌, [], ◌∷◌, length, get_or, Bool, refl, sym, ap, Option, Some, None, Result, Ok, Err, arith}
+use Rattle.std.proofs.Common.{◌≡◌, ◌⊎◌, inl, inr, ◌<◌, ◌≤◌, [], ◌∷◌, length, get_or, Bool, refl, sym, ap, Option, Some, None, Result, Ok, Err, arith}
 use Rattle.xp_base.specs.declared.codes.EvalError.{EvalError}
 use Rattle.std.specs.Prelude.{List}
-use Rattle.xp_value.specs.declared.value.Rep.{Rep}
 use Rattle.xp_value.specs.declared.value.Value.{Value}
+use Rattle.xp_tree.specs.declared.node.Node.{Node}
+use Rattle.xp_tree.specs.declared.node.Node.TheVariants as node
 use Rattle.xp_tree.specs.declared.parts.Callee.{Callee}
+use Rattle.xp_tree.specs.declared.parts.Modifier.{Modifier}
 use Rattle.xp_base.specs.FromLeft.{and_then}
 use Rattle.xp_base.specs.declared.numbers.RowNo.{RowNo}
 use Rattle.xp_tree.specs.declared.parts.NodeType.{NodeType}
-use Rattle.xp_tree.specs.Term.{Term, terms}
-use Rattle.xp_tree.specs.View.{checked_by}
+use Rattle.xp_tree.specs.Term.{One, Term, input, is_false, is_null, is_true, is_unknown, negation, one, output, relabel, sizing, terms}
+use Rattle.xp_tree.specs.View.{checked_by, term_of}
 use Rattle.xp_meaning.specs.Meaning.{outcome, outcomes}
 use Rattle.xp_meaning.specs.Nodes as nodes
-use Rattle.xp_meaning.specs.Nodes.{call_of, kept_not_null, relabelled}
+use Rattle.xp_meaning.specs.Nodes.{call_of, kept_not_null, one_step}
 use Rattle.xp_meaning.specs.Truth.{Outcome}
 use Rattle.xp_eval.specs.Real.{real}
+use Rattle.xp_eval.specs.inner.Steps.{Steps}
 use Rattle.xp_call.specs.Calls.{Calls, answered}
 use Rattle.xp_call.specs.declared.fault.CallFault.{CallFault}
 use Rattle.xp_call.specs.declared.fault.CallFault.TheVariants as fault
@@ -36,9 +39,23 @@ pub calls_stop : {T U : Type 0} (o : Result T EvalError) (f : T → Result U Eva
 calls_stop o f fault.Memory h = tt
 calls_stop o f (fault.Raised e) h = rw (answered_err o e h) refl
 
--- a value under another type
-pub relabel_answer : (o : Outcome) (r : Rep) (v w : Value) → answered o ≡ Ok v → w ≡ relabelled r v → answered (and_then o (λ x. Ok (relabelled r x))) ≡ Ok w
-relabel_answer o r v w h e = rw (answered_ok o v h, e) refl
+-- a node over one tree
+step_answer : (row : List Value) (v : Value) (o : One) (a : Term) (ty : NodeType) (x : Value) (r : Result Value CallFault) → Calls (outcome real row v a) (Ok x) → Steps (one o a ty) x r → Calls (outcome real row v (one o a ty)) r
+step_answer row v o a ty x r h said = calls_then (outcome real row v a) (one_step real o ty) x r h said
+
+abbrev pub IsOver : Node → Term → Type 0
+IsOver n a = ((ty : NodeType) × (n ≡ node.Output a ty)) ⊎ (((ty : NodeType) × (n ≡ node.Input a ty)) ⊎ (((ty : NodeType) × (n ≡ node.Relabel a ty)) ⊎ (((m : Modifier) × (cut : Bool) × (ty : NodeType) × (n ≡ node.Sizing a m cut ty)) ⊎ (((ty : NodeType) × (n ≡ node.Not a ty)) ⊎ (((ty : NodeType) × (n ≡ node.IsNull a ty)) ⊎ (((ty : NodeType) × (n ≡ node.IsTrue a ty)) ⊎ (((ty : NodeType) × (n ≡ node.IsFalse a ty)) ⊎ (((ty : NodeType) × (n ≡ node.IsUnknown a ty))))))))))
+
+pub over_answer : (row : List Value) (v : Value) (n : Node) (a : Term) (x : Value) (r : Result Value CallFault) → IsOver n a → Calls (outcome real row v a) (Ok x) → Steps (term_of n) x r → Calls (outcome real row v (term_of n)) r
+over_answer row v n a x r (inl (ty, is)) h said = let stepped = rw is at said in rw is (step_answer row v output a ty x r h stepped)
+over_answer row v n a x r (inr (inl (ty, is))) h said = let stepped = rw is at said in rw is (step_answer row v input a ty x r h stepped)
+over_answer row v n a x r (inr (inr (inl (ty, is)))) h said = let stepped = rw is at said in rw is (step_answer row v relabel a ty x r h stepped)
+over_answer row v n a x r (inr (inr (inr (inl (m, cut, ty, is))))) h said = let stepped = rw is at said in rw is (step_answer row v (sizing m cut) a ty x r h stepped)
+over_answer row v n a x r (inr (inr (inr (inr (inl (ty, is)))))) h said = let stepped = rw is at said in rw is (step_answer row v negation a ty x r h stepped)
+over_answer row v n a x r (inr (inr (inr (inr (inr (inl (ty, is))))))) h said = let stepped = rw is at said in rw is (step_answer row v is_null a ty x r h stepped)
+over_answer row v n a x r (inr (inr (inr (inr (inr (inr (inl (ty, is)))))))) h said = let stepped = rw is at said in rw is (step_answer row v is_true a ty x r h stepped)
+over_answer row v n a x r (inr (inr (inr (inr (inr (inr (inr (inl (ty, is))))))))) h said = let stepped = rw is at said in rw is (step_answer row v is_false a ty x r h stepped)
+over_answer row v n a x r (inr (inr (inr (inr (inr (inr (inr (inr (ty, is))))))))) h said = let stepped = rw is at said in rw is (step_answer row v is_unknown a ty x r h stepped)
 
 -- a call of the values of its arguments
 pub call_answer : (o : Result (List Value) EvalError) (callee : Callee) (vs : List Value) (r : Result Value CallFault) → answered o ≡ Ok vs → Calls (call_of real callee vs) r → Calls (and_then o (call_of real callee)) r
@@ -51,23 +68,17 @@ domain_stop row v a number not_null None ty x e h k = calls_then (outcome real r
 domain_stop row v a number not_null (Some c) ty x e h k =
     calls_stop (and_then (outcome real row v a) (kept_not_null not_null)) (λ y. and_then (outcome real row y c) (nodes.checked_by y)) e (calls_then (outcome real row v a) (kept_not_null not_null) x (Err e) h k)
 
--- its check raises
-pub check_stop : (row : List Value) (v : Value) (a : Term) (number : RowNo) (not_null : Bool) (check : Option Term) (ty : NodeType) (k : Term) (x y : Value) (e : CallFault)
-    → check ≡ Some k → Calls (outcome real row v a) (Ok x) → Calls (kept_not_null not_null x) (Ok y) → Calls (outcome real row y k) (Err e)
-    → Calls (outcome real row v (checked_by a number not_null check ty)) (Err e)
-check_stop row v a number not_null check ty k x y e is h kept stop =
-    rw is (calls_then (and_then (outcome real row v a) (kept_not_null not_null)) (λ y. and_then (outcome real row y k) (nodes.checked_by y)) y (Err e)
-    (calls_then (outcome real row v a) (kept_not_null not_null) x (Ok y) h kept)
-    (calls_stop (outcome real row y k) (nodes.checked_by y) e stop))
+-- the check of the value
+pub check_said : (o : Outcome) (x y : Value) (r : Result Value CallFault) → Calls o (Ok y) → Calls (nodes.checked_by x y) r → Calls (and_then o (nodes.checked_by x)) r
+check_said o x y r h said = calls_then o (nodes.checked_by x) y r h said
 
--- its check has a value
-pub check_answer : (row : List Value) (v : Value) (a : Term) (number : RowNo) (not_null : Bool) (check : Option Term) (ty : NodeType) (k : Term) (x y w : Value) (r : Result Value CallFault)
-    → check ≡ Some k → Calls (outcome real row v a) (Ok x) → Calls (kept_not_null not_null x) (Ok y) → Calls (outcome real row y k) (Ok w) → Calls (nodes.checked_by y w) r
+-- it has one
+pub check_answer : (row : List Value) (v : Value) (a : Term) (number : RowNo) (not_null : Bool) (check : Option Term) (ty : NodeType) (k : Term) (x y : Value) (r : Result Value CallFault)
+    → check ≡ Some k → Calls (outcome real row v a) (Ok x) → Calls (kept_not_null not_null x) (Ok y) → Calls (and_then (outcome real row y k) (nodes.checked_by y)) r
     → Calls (outcome real row v (checked_by a number not_null check ty)) r
-check_answer row v a number not_null check ty k x y w r is h kept truth said =
+check_answer row v a number not_null check ty k x y r is h kept said =
     rw is (calls_then (and_then (outcome real row v a) (kept_not_null not_null)) (λ y. and_then (outcome real row y k) (nodes.checked_by y)) y r
-    (calls_then (outcome real row v a) (kept_not_null not_null) x (Ok y) h kept)
-    (calls_then (outcome real row y k) (nodes.checked_by y) w r truth said))
+    (calls_then (outcome real row v a) (kept_not_null not_null) x (Ok y) h kept) said)
 
 -- ---- calls of one argument or two
 

@@ -1,5 +1,9 @@
 pub mod Called
+pub mod Chosen
+pub mod Connected
 pub mod Lengths
 pub mod Permitted
+pub mod Raised
 pub mod Reading
 pub mod Rest
+pub mod Tested

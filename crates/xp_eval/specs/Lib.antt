@@ -1,3 +1,4 @@
+pub mod inner
 pub mod Permitted
 pub mod Real
 pub mod Sizes

@@ -1,10 +1,9 @@
 //! What a domain takes (manual CREATE DOMAIN).
-ghost use Rattle.std.specs.Prelude.{◌≡◌};
 ghost use Rattle.xp_call.specs.Calls.{Calls};
 ghost use Rattle.xp_meaning.specs.Nodes.{checked_by, kept_not_null};
-ghost use Rattle.xp_meaning.specs.Truth.{is_false};
 
 use crate::columns::is_null;
+use crate::truths::is_false;
 use xp_base::EvalError;
 use xp_call::CallFault;
 use xp_value::Value;
@@ -17,12 +16,6 @@ pub fn kept_not_null(not_null: bool, value: Value) -> Result<Value, CallFault>
         return Err(CallFault::Raised(EvalError::NotNull));
     }
     Ok(value)
-}
-
-fn is_false(value: &Value) -> bool
-    ensures { result ≡ is_false value.now }
-{
-    matches!(value, Value::Bool(false))
 }
 
 /// The value, unless its check is false.

@@ -5,10 +5,11 @@ ghost use Rattle.xp_meaning.specs.Evaluable as spec;
 ghost use Rattle.xp_tree.specs.Rests.{is_represented};
 ghost use Rattle.xp_tree.specs.Term.{terms};
 ghost use Rattle.xp_tree.specs.Typed.{is_text};
+ghost use Rattle.xp_tree.specs.View.{arms_of};
 
 use xp_base::BodyNo;
 use xp_call::is_built;
-use xp_tree::{Modifier, Node, NodeType, Tree};
+use xp_tree::{CaseArm, Modifier, Node, NodeType, Tree};
 use xp_value::Rep;
 
 fn has_body(body: Option<BodyNo>) -> bool
@@ -34,11 +35,12 @@ fn is_text(rep: Rep) -> bool
 
 /// Whether values of the representation are brought to the modifier.
 fn is_sized(modifier: Modifier, rep: Rep) -> bool
-    ensures { result ≡ spec.is_length_built modifier rep }
+    ensures { result ≡ spec.is_sizing_built modifier rep }
 {
     match modifier {
         Modifier::Length(_) => is_text(rep),
-        _ => false,
+        Modifier::Digits { .. } => rep == Rep::Num,
+        Modifier::None => false,
     }
 }
 
@@ -52,18 +54,51 @@ pub fn is_evaluable(tree: &Tree) -> bool
         Node::Constant { ty, .. } | Node::Column { ty, .. } | Node::Given { ty } => {
             is_represented(*ty)
         }
-        Node::Output { arg, ty } | Node::Input { arg, ty } | Node::Relabel { arg, ty } => {
-            is_represented(*ty) && is_evaluable(arg)
-        }
+        Node::Output { arg, ty }
+        | Node::Input { arg, ty }
+        | Node::Relabel { arg, ty }
+        | Node::Not { arg, ty }
+        | Node::IsNull { arg, ty }
+        | Node::IsTrue { arg, ty }
+        | Node::IsFalse { arg, ty }
+        | Node::IsUnknown { arg, ty } => is_represented(*ty) && is_evaluable(arg),
         Node::Sizing {
             arg,
             modifier,
             ty,
             ..
         } => { is_sized(*modifier, ty.rep) && is_represented(*ty) && is_evaluable(arg) }
+        Node::And { left, right, ty } | Node::Or { left, right, ty } => {
+            is_represented(*ty) && is_evaluable(left) && is_evaluable(right)
+        }
+        Node::NullIf {
+            callee,
+            left,
+            right,
+            ty,
+        }
+        | Node::Distinct {
+            callee,
+            left,
+            right,
+            ty,
+        } => {
+            has_body(callee.body)
+                && is_represented(*ty)
+                && is_evaluable(left)
+                && is_evaluable(right)
+        }
         Node::Call { callee, args, ty } => {
             has_body(callee.body) && is_represented(*ty) && all_evaluable(args.as_slice())
         }
+        Node::Coalesce { args, ty } | Node::Greatest { args, ty } | Node::Least { args, ty } => {
+            is_represented(*ty) && all_evaluable(args.as_slice())
+        }
+        Node::Case {
+            arms,
+            otherwise,
+            ty,
+        } => { is_represented(*ty) && arms_evaluable(arms.as_slice()) && is_evaluable(otherwise) }
         Node::Domain { arg, check, ty, .. } => {
             let is_argument = is_represented(*ty) && is_evaluable(arg);
             match check {
@@ -71,22 +106,7 @@ pub fn is_evaluable(tree: &Tree) -> bool
                 None => is_argument,
             }
         }
-        Node::Elements { .. }
-        | Node::And { .. }
-        | Node::Or { .. }
-        | Node::Not { .. }
-        | Node::IsNull { .. }
-        | Node::IsTrue { .. }
-        | Node::IsFalse { .. }
-        | Node::IsUnknown { .. }
-        | Node::Case { .. }
-        | Node::Coalesce { .. }
-        | Node::Greatest { .. }
-        | Node::Least { .. }
-        | Node::Array { .. }
-        | Node::NullIf { .. }
-        | Node::Distinct { .. }
-        | Node::Subscript { .. } => false,
+        Node::Elements { .. } | Node::Array { .. } | Node::Subscript { .. } => false,
     }
 }
 
@@ -97,6 +117,19 @@ fn all_evaluable(trees: &[Tree]) -> bool
 {
     'trees: for tree in trees {
         if !is_evaluable(tree) {
+            return false;
+        }
+    }
+    true
+}
+
+#[cycle(evaluable)]
+#[tactic(auto, using(xp_tree::proofs::Rest::condition_at, xp_tree::proofs::Rest::result_at, xp_base::proofs::Lists::drop_one, xp_base::proofs::Lists::drop_none))]
+fn arms_evaluable(arms: &[CaseArm]) -> bool
+    ensures { result ≡ spec.arms_evaluable is_built (arms_of arms.now) }
+{
+    'arms: for arm in arms {
+        if !(is_evaluable(&arm.condition) && is_evaluable(&arm.result)) {
             return false;
         }
     }

@@ -3,12 +3,20 @@
 //! folds or compiles a tree, and never prints a value.
 #![tactic(auto)]
 
+mod calls;
+mod choices;
 mod columns;
+mod comparisons;
+mod connectives;
 mod constants;
+mod decimals;
 mod domains;
 mod evaluable;
+mod settled;
 mod sizes;
+mod steps;
 mod texts;
+mod truths;
 mod walk;
 
 pub use constants::{early, early_all};

@@ -1,14 +1,15 @@
-//! Texts brought to a length in characters (manual 8.3).
+//! Texts brought to a length in characters (manual 8.3), and numerics to a precision and a scale.
 ghost use Rattle.std.specs.Prelude.{◌≡◌, ◌++◌, IfOk, length, replicate, true};
 ghost use Rattle.std.specs.Str.{chars};
 ghost use Rattle.xp_base.specs.FromLeft.{and_then};
 ghost use Rattle.xp_call.specs.Calls.{Calls};
-ghost use Rattle.xp_meaning.specs.Evaluable.{is_length_built};
+ghost use Rattle.xp_meaning.specs.Evaluable.{is_sizing_built};
 ghost use Rattle.xp_meaning.specs.Nodes.{limited, sized, unless_null};
 ghost use Rattle.xp_tree.specs.declared.parts.Modifier.TheVariants as modifier;
 ghost use Rattle.xp_eval.specs.Real.{real};
 ghost use Rattle.xp_eval.specs.Sizes.{ends_blank, front, padded, shortened, sized_to};
 
+use crate::decimals::of_digits;
 use crate::texts::limited_text;
 use std::alloc::Global;
 use xp_base::{EvalError, Memory, Txt, VALUE_LIMIT};
@@ -95,8 +96,8 @@ fn of_length(alloc: Global, n: u32, cut: bool, value: Value) -> Result<Value, Ca
     }
 }
 
-/// A text of the type, brought to the modifier; null stays null.
-#[tactic(auto, using(crate::proofs::Lengths::of_text))]
+/// A text or a numeric of the type, brought to the modifier; null stays null.
+#[tactic(auto, using(crate::proofs::Lengths::of_text, crate::proofs::Lengths::of_numeric))]
 pub fn sized(
     alloc: Global,
     modifier: Modifier,
@@ -104,11 +105,12 @@ pub fn sized(
     ty: NodeType,
     value: Value,
 ) -> Result<Value, CallFault>
-    requires { is_length_built modifier ty.rep ≡ true }
+    requires { is_sizing_built modifier ty.rep ≡ true }
     ensures { Calls (unless_null (sized real modifier cut ty) value) result }
 {
     match modifier {
         Modifier::Length(n) => of_length(alloc, n, cut, value),
-        _ => unreachable!(),
+        Modifier::Digits { p, s } => of_digits(p, s, cut, value),
+        Modifier::None => unreachable!(),
     }
 }

@@ -2,41 +2,29 @@
 ghost use Rattle.std.specs.Prelude.{◌≡◌, true};
 ghost use Rattle.xp_base.specs.FromLeft.{and_then};
 ghost use Rattle.xp_call.specs.Calls.{Calls, is_built};
-ghost use Rattle.xp_meaning.specs.Evaluable.{all_evaluable, has_body, is_evaluable};
+ghost use Rattle.xp_meaning.specs.Evaluable.{all_evaluable, is_evaluable};
 ghost use Rattle.xp_meaning.specs.Meaning.{outcome, outcomes};
-ghost use Rattle.xp_meaning.specs.Nodes.{call_of};
+ghost use Rattle.xp_meaning.specs.Nodes.{call_of, checked_by};
 ghost use Rattle.xp_tree.specs.Term.{terms};
 ghost use Rattle.xp_eval.specs.Permitted.{ArePermitted, IsPermitted};
 ghost use Rattle.xp_eval.specs.Real.{real};
 
-use crate::columns::{column, has_null, relabel};
+use crate::calls::call_callee;
+use crate::choices::{eval_case, eval_coalesce, eval_extreme};
+use crate::columns::column;
+use crate::connectives::{eval_and, eval_distinct, eval_null_if, eval_or};
 use crate::domains::{checked_by, kept_not_null};
-use crate::sizes::sized;
-use crate::texts::{input, output};
+use crate::steps::step;
 use sqlite_items::Items;
 use std::alloc::Global;
-use xp_base::EvalError;
-use xp_call::{CallFault, call};
+use xp_call::CallFault;
 use xp_tree::{Callee, Node, Tree};
 use xp_value::{Row, Value};
 
-#[tactic(auto, unfolding(crate::specs::Real::real))]
-fn call_callee(alloc: Global, callee: &Callee, args: &[Value]) -> Result<Value, CallFault>
-    ensures { Calls (call_of real callee.now args.now) result }
-{
-    if callee.strict && has_null(args) {
-        return Ok(Value::Null);
-    }
-    match callee.body {
-        Some(body) => call(alloc, body, args),
-        None => Err(CallFault::Raised(EvalError::Limit)),
-    }
-}
-
 /// What the tree gives at the row where VALUE is the given value.
 #[cycle(eval)]
-#[tactic(auto, using(crate::proofs::Called::calls_stop, crate::proofs::Called::domain_stop, crate::proofs::Called::check_stop, crate::proofs::Called::check_answer, crate::proofs::Rest::check_evaluable))]
-fn eval_given(alloc: Global, t: &Tree, given: &Value, row: &[Value]) -> Result<Value, CallFault>
+#[tactic(auto, using(crate::proofs::Called::calls_stop, crate::proofs::Called::domain_stop, crate::proofs::Called::check_answer, crate::proofs::Rest::check_evaluable))]
+pub fn eval_given(alloc: Global, t: &Tree, given: &Value, row: &[Value]) -> Result<Value, CallFault>
     requires { is_evaluable is_built t.now ≡ true }
     ensures { Calls (outcome real row.now given.now t.now) result }
 {
@@ -45,26 +33,17 @@ fn eval_given(alloc: Global, t: &Tree, given: &Value, row: &[Value]) -> Result<V
         Node::Column { number, .. } => Ok(column(alloc, row, *number)?),
         Node::Given { .. } => Ok(given.copy(alloc)?),
         Node::Call { callee, args, .. } => eval_call(alloc, callee, args.as_slice(), given, row),
-        Node::Output { arg, ty } => {
+        Node::Output { arg, .. }
+        | Node::Input { arg, .. }
+        | Node::Relabel { arg, .. }
+        | Node::Sizing { arg, .. }
+        | Node::Not { arg, .. }
+        | Node::IsNull { arg, .. }
+        | Node::IsTrue { arg, .. }
+        | Node::IsFalse { arg, .. }
+        | Node::IsUnknown { arg, .. } => {
             let value = eval_given(alloc, arg, given, row)?;
-            output(alloc, ty.rep, &value)
-        }
-        Node::Input { arg, ty } => {
-            let value = eval_given(alloc, arg, given, row)?;
-            input(alloc, *ty, &value)
-        }
-        Node::Relabel { arg, ty } => {
-            let value = eval_given(alloc, arg, given, row)?;
-            Ok(relabel(ty.rep, value))
-        }
-        Node::Sizing {
-            arg,
-            modifier,
-            cut,
-            ty,
-        } => {
-            let value = eval_given(alloc, arg, given, row)?;
-            sized(alloc, *modifier, *cut, *ty, value)
+            step(alloc, t.top(), value)
         }
         Node::Domain {
             arg,
@@ -76,19 +55,49 @@ fn eval_given(alloc: Global, t: &Tree, given: &Value, row: &[Value]) -> Result<V
             let value = kept_not_null(*not_null, value)?;
             match check {
                 None => Ok(value),
-                Some(check) => {
-                    let truth = eval_given(alloc, check, &value, row)?;
-                    checked_by(value, &truth)
-                }
+                Some(check) => eval_check(alloc, check, value, row),
             }
         }
-        _ => unreachable!(),
+        Node::And { left, right, .. } => eval_and(alloc, left, right, given, row),
+        Node::Or { left, right, .. } => eval_or(alloc, left, right, given, row),
+        Node::NullIf {
+            callee,
+            left,
+            right,
+            ..
+        } => eval_null_if(alloc, callee, left, right, given, row),
+        Node::Distinct {
+            callee,
+            left,
+            right,
+            ..
+        } => eval_distinct(alloc, callee, left, right, given, row),
+        Node::Case {
+            arms,
+            otherwise,
+            ..
+        } => eval_case(alloc, arms.as_slice(), otherwise, given, row),
+        Node::Coalesce { args, .. } => eval_coalesce(alloc, args.as_slice(), given, row),
+        Node::Greatest { args, .. } => eval_extreme(alloc, true, args.as_slice(), given, row),
+        Node::Least { args, .. } => eval_extreme(alloc, false, args.as_slice(), given, row),
+        Node::Elements { .. } | Node::Array { .. } | Node::Subscript { .. } => unreachable!(),
     }
+}
+
+/// The value, unless the check of its domain refuses it.
+#[cycle(eval)]
+#[tactic(auto, using(crate::proofs::Called::calls_stop, crate::proofs::Called::check_said))]
+fn eval_check(alloc: Global, check: &Tree, value: Value, row: &[Value]) -> Result<Value, CallFault>
+    requires { is_evaluable is_built check.now ≡ true }
+    ensures { Calls (and_then (outcome real row.now value check.now) (checked_by value)) result }
+{
+    let truth = eval_given(alloc, check, &value, row)?;
+    checked_by(value, &truth)
 }
 
 /// What the call of the trees gives. One argument or two need no list.
 #[cycle(eval)]
-#[tactic(auto, using(crate::proofs::Rest::height_at, crate::proofs::Rest::evaluable_at, crate::proofs::Called::calls_stop, crate::proofs::Called::call_answer, crate::proofs::Called::one_answer, crate::proofs::Called::one_stop, crate::proofs::Called::two_answer, crate::proofs::Called::first_stop, crate::proofs::Called::second_stop))]
+#[tactic(auto, using(xp_tree::proofs::Rest::height_at, crate::proofs::Rest::evaluable_at, crate::proofs::Called::calls_stop, crate::proofs::Called::call_answer, crate::proofs::Called::one_answer, crate::proofs::Called::one_stop, crate::proofs::Called::two_answer, crate::proofs::Called::first_stop, crate::proofs::Called::second_stop))]
 fn eval_call(
     alloc: Global,
     callee: &Callee,
@@ -117,7 +126,7 @@ fn eval_call(
 }
 
 #[cycle(eval)]
-#[tactic(auto, using(crate::proofs::Rest::height_at, crate::proofs::Rest::evaluable_at, crate::proofs::Called::calls_then, crate::proofs::Called::calls_stop))]
+#[tactic(auto, using(xp_tree::proofs::Rest::height_at, crate::proofs::Rest::evaluable_at, crate::proofs::Called::calls_then, crate::proofs::Called::calls_stop))]
 fn eval_each(alloc: Global, trees: &[Tree], given: &Value, row: &[Value]) -> Result<Row, CallFault>
     requires { all_evaluable is_built (terms trees.now) ≡ true }
     ensures { Calls (outcomes real row.now given.now (terms trees.now)) result }

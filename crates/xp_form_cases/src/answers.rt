@@ -3,7 +3,7 @@ ghost use Rattle.std.specs.Prelude.{◌<◌, IfOk, length};
 
 use anyhow::{Result, bail};
 use std::alloc::Global;
-use xp_base::{Byts, TypeNo};
+use xp_base::{Byts, Dec, TypeNo};
 use xp_cases::{Answers, bytes};
 use xp_catalog::Catalog;
 use xp_io::{InFault, element_rep, read_value, rep_of, write_value};
@@ -50,17 +50,27 @@ fn shown(alloc: Global, text: &[u8]) -> Result<String> {
     Ok(out)
 }
 
+/// The digits of a numeric and its decimals.
+fn numeric(alloc: Global, number: Dec) -> Result<String> {
+    let sign = if number.neg { "-" } else { "" };
+    let (digits, decimals) = (number.coef, number.scale);
+    Ok(format!(in alloc; "numeric {sign}{digits}/{decimals}")?)
+}
+
 /// The kind of a value, and what it holds.
 fn described(alloc: Global, value: &Value) -> Result<String> {
     let (kind, text) = match value {
         Value::Bool(truth) => return Ok(format!(in alloc; "bool {truth}")?),
         Value::Int(number) => return Ok(format!(in alloc; "int {number}")?),
-        Value::Text(text) => ("text", text),
-        Value::Pad(text) => ("pad", text),
-        Value::Opaque(text) => ("opaque", text),
+        Value::Num(number) => return numeric(alloc, *number),
+        Value::Day(day) => return Ok(format!(in alloc; "day {day}")?),
+        Value::Text(text) => ("text", text.as_str().as_bytes()),
+        Value::Pad(text) => ("pad", text.as_str().as_bytes()),
+        Value::Bytes(bytes) => ("bytea", bytes.as_slice()),
+        Value::Opaque(text) => ("opaque", text.as_str().as_bytes()),
         _ => bail!("no such value is read yet"),
     };
-    let text = shown(alloc, text.as_str().as_bytes())?;
+    let text = shown(alloc, text)?;
     Ok(format!(in alloc; "{kind} {text}")?)
 }
 
@@ -76,7 +86,7 @@ fn read(alloc: Global, c: &Catalog, case: &str) -> Result<String> {
         Err(InFault::Memory) => bail!("out of memory"),
     };
     let mut out = Byts::new(alloc);
-    write_value(c, ty, &value, &mut out)?;
+    write_value(alloc, c, ty, &value, &mut out)?;
     let (value, text) = (described(alloc, &value)?, shown(alloc, out.as_slice())?);
     Ok(format!(in alloc; "{value}, written {text}")?)
 }

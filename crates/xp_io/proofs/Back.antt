@@ -1,5 +1,5 @@
 -- The text of a value of a representation is that value's.
-use Rattle.std.proofs.Common.{◌≡◌, ℕ, zero, suc, ◌<◌, ◌≤◌, ℤ, pos, negsuc, List, [], ◌∷◌, Bool, true, false, ◌==◌, Ok, length, nat_lt, refl, ap, ◌∙◌, arith}
+use Rattle.std.proofs.Common.{◌≡◌, ℕ, zero, suc, ◌<◌, ◌≤◌, ℤ, pos, negsuc, List, [], ◌∷◌, Bool, true, false, ◌==◌, Ok, length, nat_lt, refl, ap, ◌∙◌, subst, arith}
 use Rattle.std.specs.Fmt.{decimal, signed_decimal}
 use Rattle.std.specs.Str.{IsAscii, IsUtf8, is_utf8}
 use Rattle.std.specs.Str.Parse.{AllDigits}
@@ -11,21 +11,28 @@ use Rattle.xp_value.specs.declared.value.Rep.{Rep}
 use Rattle.xp_value.specs.declared.value.Rep.TheVariants as rep
 use Rattle.xp_value.specs.declared.value.Value.{Value, Arr'}
 use Rattle.xp_value.specs.declared.value.Value.TheVariants as value
-use Rattle.xp_value.specs.Representation.{Shape, plain, has_bits, is_of}
+use Rattle.xp_base.specs.declared.decimal.Dec.{Dec}
+use Rattle.xp_value.specs.Representation.{Shape, plain, has_bits, is_date, is_of}
+use Rattle.xp_numeric.specs.Texts.{numeral, text as numeric_text}
+use Rattle.xp_numeric.proofs.RoundTrip.{read_back as numeric_back}
+use Rattle.hex.specs.Hex.{IsBytes}
+use Rattle.xp_bytea.specs.Texts.{text as bytea_text}
+use Rattle.xp_date.specs.Texts.{date_in, text as date_text}
+use Rattle.xp_date.proofs.Digits.{read_back as date_back}
 use Rattle.xp_base.specs.declared.numbers.TypeNo.{TypeNo}
 use Rattle.xp_catalog.specs.Contents.{Contents}
 use Rattle.xp_catalog.specs.Rules.{kind_of, name_of}
-use Rattle.xp_catalog.specs.declared.rows.TypeKind.{TypeKind}
-use Rattle.xp_catalog.specs.declared.rows.TypeKind.TheVariants as kind
 use Rattle.xp_types.specs.Readers.{base}
 use Rattle.xp_io.specs.Booleans.{output_bool}
-use Rattle.xp_io.specs.Forms.{by_form, has_zero_byte, input, int_value, output, ReadsBack}
+use Rattle.xp_io.specs.Forms.{by_form, bytes_value, day_value, has_zero_byte, input, int_value, num_value, output, output_day, ReadsBack}
 use Rattle.xp_value.specs.Null.{is_null}
 use Rattle.xp_io.specs.Integers.{input_integer}
 use Rattle.xp_io.specs.inner.Chars.{IsChars}
-use Rattle.xp_io.specs.Representations.{built, rep_by, rep_of, shape_of}
-use Rattle.xp_value.specs.Names.{rep_named}
+use Rattle.xp_io.specs.Representations.{is_built, rep_of, shape_of}
+use Rattle.xp_io.proofs.Built.{kind_built}
+use Rattle.xp_io.proofs.Bytes.{bytea_back, bytea_clean, bytea_utf8}
 use Rattle.xp_io.proofs.Decimals.{in_range, small}
+use Rattle.xp_io.proofs.Printed.{date_printed, no_zero, numeric_printed, printed_utf8, trims_printed}
 use Rattle.xp_io.proofs.Decimals.{reads_back as integer_back}
 
 -- a text that may be one of a value is read by its form
@@ -64,6 +71,27 @@ letter_ascii c h (suc i) = omega arith
 bool_utf8 : (truth : Bool) → IsUtf8 (output_bool truth)
 bool_utf8 true = IsUtf8-from_ascii (116 ∷ []) (letter_ascii 116 (omega arith))
 bool_utf8 false = IsUtf8-from_ascii (102 ∷ []) (letter_ascii 102 (omega arith))
+
+numeric : (d : Dec) → length (numeric_text d) ≤ VALUE_LIMIT → input (plain rep.Num) (numeric_text d) ≡ Ok (value.Num d)
+numeric d short =
+    let all = numeric_printed d in
+    by_its_form (plain rep.Num) (numeric_text d) (printed_utf8 (numeric_text d) all) (no_zero (numeric_text d) all) short
+    ∙ ap (λ t. num_value (numeral t)) (trims_printed (numeric_text d) all)
+    ∙ ap num_value (numeric_back d)
+
+day : (n : ℤ) → is_date n ≡ true → length (output_day n) ≤ VALUE_LIMIT → input (plain rep.Day) (output_day n) ≡ Ok (value.Day n)
+day n e short =
+    let all = date_printed n in
+    let shown : output_day n ≡ date_text n = rw e refl in
+    let fits : length (date_text n) ≤ VALUE_LIMIT = subst (λ t. length t ≤ VALUE_LIMIT) shown short in
+    ap (input (plain rep.Day)) shown
+    ∙ by_its_form (plain rep.Day) (date_text n) (printed_utf8 (date_text n) all) (no_zero (date_text n) all) fits
+    ∙ ap (λ t. day_value (date_in t)) (trims_printed (date_text n) all)
+    ∙ ap day_value (date_back n e)
+
+bytea : (bytes : List ℕ) → IsBytes bytes → length (bytea_text bytes) ≤ VALUE_LIMIT → input (plain rep.Bytes) (bytea_text bytes) ≡ Ok (value.Bytes bytes)
+bytea bytes fit short =
+    by_its_form (plain rep.Bytes) (bytea_text bytes) (bytea_utf8 bytes) (bytea_clean bytes fit) short ∙ ap bytes_value (bytea_back bytes fit)
 
 -- ---- by representations: values of any other kind aren't of them
 
@@ -120,6 +148,32 @@ of_int8 (Arr' shape elements) some of utf8 = absurd (false≢true of)
 of_int8 (value.Rng r) some of utf8 = absurd (false≢true of)
 of_int8 (value.Opaque t) some of utf8 = absurd (false≢true of)
 
+of_num : (v : Value) → is_null v ≡ false → is_of (plain rep.Num) v ≡ true → IsChars v → ReadsBack (plain rep.Num) v
+of_num value.Null some of utf8 = absurd (true≢false some)
+of_num (value.Bool t) some of utf8 = absurd (false≢true of)
+of_num (value.Int n) some of utf8 = absurd (false≢true of)
+of_num (value.Num d) some of utf8 = λ short clean. numeric d short
+of_num (value.Text t) some of utf8 = absurd (false≢true of)
+of_num (value.Pad t) some of utf8 = absurd (false≢true of)
+of_num (value.Bytes b) some of utf8 = absurd (false≢true of)
+of_num (value.Day n) some of utf8 = absurd (false≢true of)
+of_num (Arr' shape elements) some of utf8 = absurd (false≢true of)
+of_num (value.Rng r) some of utf8 = absurd (false≢true of)
+of_num (value.Opaque t) some of utf8 = absurd (false≢true of)
+
+of_day : (v : Value) → is_null v ≡ false → is_of (plain rep.Day) v ≡ true → IsChars v → ReadsBack (plain rep.Day) v
+of_day value.Null some of utf8 = absurd (true≢false some)
+of_day (value.Bool t) some of utf8 = absurd (false≢true of)
+of_day (value.Int n) some of utf8 = absurd (false≢true of)
+of_day (value.Num d) some of utf8 = absurd (false≢true of)
+of_day (value.Text t) some of utf8 = absurd (false≢true of)
+of_day (value.Pad t) some of utf8 = absurd (false≢true of)
+of_day (value.Bytes b) some of utf8 = absurd (false≢true of)
+of_day (value.Day n) some of utf8 = λ short clean. day n (and_parts (is_date n) _ of).0 short
+of_day (Arr' shape elements) some of utf8 = absurd (false≢true of)
+of_day (value.Rng r) some of utf8 = absurd (false≢true of)
+of_day (value.Opaque t) some of utf8 = absurd (false≢true of)
+
 of_text : (v : Value) → is_null v ≡ false → is_of (plain rep.Text) v ≡ true → IsChars v → ReadsBack (plain rep.Text) v
 of_text value.Null some of utf8 = absurd (true≢false some)
 of_text (value.Bool t) some of utf8 = absurd (false≢true of)
@@ -146,6 +200,19 @@ of_pad (Arr' shape elements) some of utf8 = absurd (false≢true of)
 of_pad (value.Rng r) some of utf8 = absurd (false≢true of)
 of_pad (value.Opaque t) some of utf8 = absurd (false≢true of)
 
+of_bytes : (v : Value) → is_null v ≡ false → is_of (plain rep.Bytes) v ≡ true → IsChars v → ReadsBack (plain rep.Bytes) v
+of_bytes value.Null some of utf8 = absurd (true≢false some)
+of_bytes (value.Bool t) some of utf8 = absurd (false≢true of)
+of_bytes (value.Int n) some of utf8 = absurd (false≢true of)
+of_bytes (value.Num d) some of utf8 = absurd (false≢true of)
+of_bytes (value.Text t) some of utf8 = absurd (false≢true of)
+of_bytes (value.Pad t) some of utf8 = absurd (false≢true of)
+of_bytes (value.Bytes b) some of utf8 = λ short clean. bytea b utf8 short
+of_bytes (value.Day n) some of utf8 = absurd (false≢true of)
+of_bytes (Arr' shape elements) some of utf8 = absurd (false≢true of)
+of_bytes (value.Rng r) some of utf8 = absurd (false≢true of)
+of_bytes (value.Opaque t) some of utf8 = absurd (false≢true of)
+
 of_opaque : (v : Value) → is_null v ≡ false → is_of (plain rep.Opaque) v ≡ true → IsChars v → ReadsBack (plain rep.Opaque) v
 of_opaque value.Null some of utf8 = absurd (true≢false some)
 of_opaque (value.Bool t) some of utf8 = absurd (false≢true of)
@@ -159,50 +226,23 @@ of_opaque (Arr' shape elements) some of utf8 = absurd (false≢true of)
 of_opaque (value.Rng r) some of utf8 = absurd (false≢true of)
 of_opaque (value.Opaque t) some of utf8 = λ short clean. by_its_form (plain rep.Opaque) t utf8 clean short
 
-abbrev is_opaque : Rep → Bool
-is_opaque rep.Opaque = true
-is_opaque _ = false
-
-reads_back : (r : Rep) (v : Value) → built r ≡ r → is_null v ≡ false → is_of (plain r) v ≡ true → IsChars v → ReadsBack (plain r) v
-reads_back rep.Bool v stays some of utf8 = of_bool v some of utf8
-reads_back rep.Int2 v stays some of utf8 = of_int2 v some of utf8
-reads_back rep.Int4 v stays some of utf8 = of_int4 v some of utf8
-reads_back rep.Int8 v stays some of utf8 = of_int8 v some of utf8
-reads_back rep.Text v stays some of utf8 = of_text v some of utf8
-reads_back rep.Pad v stays some of utf8 = of_pad v some of utf8
-reads_back rep.Opaque v stays some of utf8 = of_opaque v some of utf8
-reads_back rep.Num v stays some of utf8 = absurd (true≢false (ap is_opaque stays))
-reads_back rep.Bytes v stays some of utf8 = absurd (true≢false (ap is_opaque stays))
-reads_back rep.Day v stays some of utf8 = absurd (true≢false (ap is_opaque stays))
-reads_back rep.Arr v stays some of utf8 = absurd (true≢false (ap is_opaque stays))
-reads_back rep.Int4Range v stays some of utf8 = absurd (true≢false (ap is_opaque stays))
-reads_back rep.Int8Range v stays some of utf8 = absurd (true≢false (ap is_opaque stays))
-reads_back rep.DateRange v stays some of utf8 = absurd (true≢false (ap is_opaque stays))
+reads_back : (r : Rep) (v : Value) → is_built r ≡ true → is_null v ≡ false → is_of (plain r) v ≡ true → IsChars v → ReadsBack (plain r) v
+reads_back rep.Bool v known some of utf8 = of_bool v some of utf8
+reads_back rep.Int2 v known some of utf8 = of_int2 v some of utf8
+reads_back rep.Int4 v known some of utf8 = of_int4 v some of utf8
+reads_back rep.Int8 v known some of utf8 = of_int8 v some of utf8
+reads_back rep.Text v known some of utf8 = of_text v some of utf8
+reads_back rep.Pad v known some of utf8 = of_pad v some of utf8
+reads_back rep.Opaque v known some of utf8 = of_opaque v some of utf8
+reads_back rep.Num v known some of utf8 = of_num v some of utf8
+reads_back rep.Bytes v known some of utf8 = of_bytes v some of utf8
+reads_back rep.Day v known some of utf8 = of_day v some of utf8
+reads_back rep.Arr v known some of utf8 = absurd (false≢true known)
+reads_back rep.Int4Range v known some of utf8 = absurd (false≢true known)
+reads_back rep.Int8Range v known some of utf8 = absurd (false≢true known)
+reads_back rep.DateRange v known some of utf8 = absurd (false≢true known)
 
 -- ---- of a type of the catalogue
 
-stays_built : (r : Rep) → built (built r) ≡ built r
-stays_built rep.Bool = refl
-stays_built rep.Int2 = refl
-stays_built rep.Int4 = refl
-stays_built rep.Int8 = refl
-stays_built rep.Num = refl
-stays_built rep.Text = refl
-stays_built rep.Pad = refl
-stays_built rep.Bytes = refl
-stays_built rep.Day = refl
-stays_built rep.Arr = refl
-stays_built rep.Int4Range = refl
-stays_built rep.Int8Range = refl
-stays_built rep.DateRange = refl
-stays_built rep.Opaque = refl
-
-stays : (k : TypeKind) (name : List ℕ) → built (rep_by k name) ≡ rep_by k name
-stays kind.Plain name = stays_built (rep_named name)
-stays (kind.Pseudo p) name = refl
-stays (kind.Array e) name = refl
-stays (kind.Range n) name = refl
-stays (kind.Domain n) name = refl
-
 pub of_type : (c : Contents) (t : TypeNo) (v : Value) → is_null v ≡ false → is_of (shape_of c t) v ≡ true → IsChars v → ReadsBack (shape_of c t) v
-of_type c t v = reads_back (rep_of c t) v (stays (kind_of c (base c t)) (name_of c (base c t)))
+of_type c t v = reads_back (rep_of c t) v (kind_built (kind_of c (base c t)) (name_of c (base c t)))

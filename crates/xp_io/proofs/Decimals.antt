@@ -35,7 +35,7 @@ no_letter c h =
     let B : (c == 66) ≡ false = other c 66 h (omega arith) in
     rw (x, X, o, O, b, B) refl
 
-no_space : (c : ℕ) → 33 ≤ c → is_space c ≡ false
+pub no_space : (c : ℕ) → 33 ≤ c → is_space c ≡ false
 no_space c h =
     let other : (c == 32) ≡ false = ne_eqb c 32 (λ e. omega arith) in
     let low : nat_le 9 c ≡ true = le-leb 9 c (omega arith) in
@@ -44,7 +44,7 @@ no_space c h =
 
 -- ---- a text of decimal digits
 
-ends : (c : ℕ) (ds : List ℕ) → 33 ≤ c → trimmed_end ds ≡ ds → trimmed_end (c ∷ ds) ≡ c ∷ ds
+pub ends : (c : ℕ) (ds : List ℕ) → 33 ≤ c → trimmed_end ds ≡ ds → trimmed_end (c ∷ ds) ≡ c ∷ ds
 ends c [] h e = rw (no_space c h) refl
 ends c (d ∷ ds) h e = ap (before c) e
 

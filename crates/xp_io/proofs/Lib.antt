@@ -1,4 +1,6 @@
 pub mod Back
+pub mod Built
+mod Bytes
 pub mod Clean
 pub mod Decimals
 pub mod Digits
@@ -7,3 +9,4 @@ pub mod Lexer
 pub mod Scripts
 pub mod Trimming
 pub mod Widths
+mod Printed

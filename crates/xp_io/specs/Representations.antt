@@ -1,5 +1,5 @@
 -- How the values of a type are kept, by its record in the catalogue (manual 8.1, 8.3, 8.4, 8.5, 8.6, 8.18).
-use Rattle.std.specs.Prelude.{ℕ, List, Bool, true, false, ◌||◌, cond, codes}
+use Rattle.std.specs.Prelude.{ℕ, List, Bool, true, false}
 use Rattle.std.specs.Option.{option_map_or}
 use Rattle.std.specs.Str.{bytes_eq}
 use Rattle.xp_base.specs.declared.numbers.TypeNo.{TypeNo}
@@ -13,21 +13,17 @@ use Rattle.xp_catalog.specs.Contents.{Contents}
 use Rattle.xp_catalog.specs.Rules.{kind_of, name_of}
 use Rattle.xp_types.specs.Readers.{base, element}
 
--- The representations whose text form is built. A type of any other counts as opaque: its values are texts as they stand.
+-- The representations whose text form is built: all but those of arrays and ranges.
 abbrev pub is_built : Rep → Bool
-is_built rep.Bool = true
-is_built rep.Int2 = true
-is_built rep.Int4 = true
-is_built rep.Int8 = true
-is_built rep.Text = true
-is_built rep.Pad = true
-is_built _ = false
+is_built rep.Arr = false
+is_built rep.Int4Range = false
+is_built rep.Int8Range = false
+is_built rep.DateRange = false
+is_built _ = true
 
-abbrev pub built : Rep → Rep
-built r = cond (is_built r) r rep.Opaque
-
+-- A type whose text form isn't built, as an array type or a range type, counts as opaque: its values are texts as they stand.
 abbrev pub rep_by : TypeKind → List ℕ → Rep
-rep_by kind.Plain name = built (rep_named name)
+rep_by kind.Plain name = rep_named name
 rep_by _ name = rep.Opaque
 
 -- the representation of a type; a domain has its base's

@@ -1,18 +1,24 @@
 //! From a text to a value.
-ghost use Rattle.std.specs.Prelude.{◌≡◌, ◌<◌, ◌≤◌, IfOk, MatchResult, false, length, true};
-ghost use Rattle.xp_io.specs.Forms.{Reads, by_form, input, is_clean};
+ghost use Rattle.std.specs.Prelude.{◌≡◌, ◌<◌, ◌≤◌, Err, IfOk, MatchResult, Ok, false, length, true};
+ghost use Rattle.xp_bytea.specs.Texts.{bytes_in};
+ghost use Rattle.xp_io.specs.Forms.{Reads, by_form, bytes_value, input, is_clean};
 ghost use Rattle.xp_value.specs.Null.{is_null};
-ghost use Rattle.xp_io.specs.Representations.{built, shape_of};
+ghost use Rattle.xp_io.specs.Representations.{is_built, shape_of};
 ghost use Rattle.xp_value.specs.Representation.{is_of, plain};
 
 use crate::booleans::input_bool;
 use crate::integers::input_integer;
 use crate::representations::rep_of;
+use crate::space::trimmed;
 use std::alloc::Global;
 use std::str;
 use thiserror::Error;
-use xp_base::{EvalError, Memory, Txt, TypeNo, VALUE_LIMIT};
+use xp_base::{Byts, EvalError, Memory, Txt, TypeNo, VALUE_LIMIT};
+use xp_bytea::read_bytea;
 use xp_catalog::Catalog;
+use xp_characters::TextFault;
+use xp_date::read_date;
+use xp_numeric::read_numeric;
 use xp_value::{Rep, Value};
 
 /// Why a text gave no value.
@@ -59,10 +65,22 @@ fn clean(text: &[u8]) -> Result<&str, EvalError>
     Ok(checked)
 }
 
+/// The bytes that the text is, which are no more than its own.
+fn bytes_in(alloc: Global, text: &[u8]) -> Result<Byts, InFault>
+    ensures value { MatchResult result (λ bytes. bytes_in text.now ≡ Ok bytes) (λ e. Reads (bytes_value (bytes_in text.now)) (Err e)) }
+    ensures short { IfOk result (λ bytes. length bytes ≤ length text.now) }
+{
+    match read_bytea(alloc, text) {
+        Ok(bytes) => Ok(bytes),
+        Err(TextFault::Raised(error)) => Err(InFault::Bad(error)),
+        Err(TextFault::Memory) => Err(InFault::Memory),
+    }
+}
+
 /// The value that the text is, by the form of the representation.
 fn by_form(alloc: Global, rep: Rep, text: &str) -> Result<Value, InFault>
     ensures value { Reads (by_form (plain rep) text.now) result }
-    ensures fits { built rep ≡ rep → length text.now ≤ VALUE_LIMIT → IfOk result (λ v. is_of (plain rep) v ≡ true) }
+    ensures fits { is_built rep ≡ true → length text.now ≤ VALUE_LIMIT → IfOk result (λ v. is_of (plain rep) v ≡ true) }
     ensures not_null { IfOk result (λ v. is_null v ≡ false) }
 {
     let bytes = text.as_bytes();
@@ -71,8 +89,11 @@ fn by_form(alloc: Global, rep: Rep, text: &str) -> Result<Value, InFault>
         Rep::Int2 => Ok(Value::Int(input_integer(16, bytes)?)),
         Rep::Int4 => Ok(Value::Int(input_integer(32, bytes)?)),
         Rep::Int8 => Ok(Value::Int(input_integer(64, bytes)?)),
+        Rep::Num => Ok(Value::Num(read_numeric(trimmed(bytes))?)),
+        Rep::Day => Ok(Value::Day(read_date(trimmed(bytes))?)),
         Rep::Text => Ok(Value::Text(Txt::from_str(alloc, text)?)),
         Rep::Pad => Ok(Value::Pad(Txt::from_str(alloc, text)?)),
+        Rep::Bytes => Ok(Value::Bytes(bytes_in(alloc, bytes)?)),
         _ => Ok(Value::Opaque(Txt::from_str(alloc, text)?)),
     }
 }
@@ -80,7 +101,7 @@ fn by_form(alloc: Global, rep: Rep, text: &str) -> Result<Value, InFault>
 /// The value that the text is where values are kept so, which is never null.
 pub fn read_text(alloc: Global, rep: Rep, text: &[u8]) -> Result<Value, InFault>
     ensures value { Reads (input (plain rep) text.now) result }
-    ensures fits { built rep ≡ rep → IfOk result (λ v. is_of (plain rep) v ≡ true) }
+    ensures fits { is_built rep ≡ true → IfOk result (λ v. is_of (plain rep) v ≡ true) }
     ensures not_null { IfOk result (λ v. is_null v ≡ false) }
 {
     let text = clean(text)?;

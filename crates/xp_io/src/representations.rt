@@ -1,6 +1,6 @@
 //! How the values of a type are kept.
-ghost use Rattle.std.specs.Prelude.{◌≡◌, ◌<◌, length};
-ghost use Rattle.xp_io.specs.Representations.{built, element_rep, is_built, rep_of};
+ghost use Rattle.std.specs.Prelude.{◌≡◌, ◌<◌, length, true};
+ghost use Rattle.xp_io.specs.Representations.{element_rep, is_built, rep_of};
 ghost use Rattle.xp_value.specs.Names.{rep_named};
 
 use xp_base::TypeNo;
@@ -10,7 +10,8 @@ use xp_value::Rep;
 
 /// The representation of the plain type of that name.
 fn rep_named(name: &str) -> Rep
-    ensures { result ≡ rep_named name.now }
+    ensures value { result ≡ rep_named name.now }
+    ensures built { is_built result ≡ true }
 {
     match name {
         "bool" => Rep::Bool,
@@ -26,32 +27,15 @@ fn rep_named(name: &str) -> Rep
     }
 }
 
-/// Whether the text form of the representation is built.
-fn is_built(rep: Rep) -> bool
-    ensures { result ≡ is_built rep }
-{
-    matches!(
-        rep,
-        Rep::Bool | Rep::Int2 | Rep::Int4 | Rep::Int8 | Rep::Text | Rep::Pad
-    )
-}
-
-fn built(rep: Rep) -> Rep
-    ensures value { result ≡ built rep }
-    ensures stays { built result ≡ result }
-{
-    if is_built(rep) { rep } else { Rep::Opaque }
-}
-
 /// The representation of the type, which a domain has of its base.
 pub fn rep_of(c: &Catalog, t: TypeNo) -> Rep
     requires { t.0 < length c.now.types }
     ensures value { result ≡ rep_of c.now t }
-    ensures built { built result ≡ result }
+    ensures built { is_built result ≡ true }
 {
     let row = c.type_row(base(c, t));
     match row.kind {
-        TypeKind::Plain => built(rep_named(row.name.as_str())),
+        TypeKind::Plain => rep_named(row.name.as_str()),
         _ => Rep::Opaque,
     }
 }

@@ -23,7 +23,7 @@ use Rattle.xp_poly.specs.Roles.{role, role_by}
 use Rattle.xp_tree.specs.declared.parts.NodeType.{NodeType}
 use Rattle.xp_tree.specs.declared.parts.Callee.{Callee}
 use Rattle.xp_tree.specs.Rests.{Rests, RestsOn, RestsOnBody, element_reps, fit_each, fit_row, fits_at, is_represented}
-use Rattle.xp_io.specs.Representations.{built, rep_of}
+use Rattle.xp_io.specs.Representations.{rep_of}
 use Rattle.xp_coerce.specs.Types.{node_type}
 use Rattle.xp_coerce.specs.Ways.{func_callee}
 use Rattle.xp_coerce.proofs.Growing.{all_at}
@@ -59,7 +59,7 @@ plain_is_no_pseudo name = of_plain (λ n. spelling.pseudo_type n ≡ None) name
     (record { bool = refl; int2 = refl; int4 = refl; int8 = refl; numeric = refl; text = refl; varchar = refl; bpchar = refl; bytea = refl; date = refl })
 
 abbrev FitsName : List ℕ → Type 0
-FitsName name = (ty : NodeType) → ty.rep ≡ built (rep_named name) → is_represented ty ≡ true → fits_at rep.Text name ty ≡ true
+FitsName name = (ty : NodeType) → ty.rep ≡ rep_named name → is_represented ty ≡ true → fits_at rep.Text name ty ≡ true
 
 fits_name : (name : List ℕ) → is_among plain_names name ≡ true → FitsName name
 fits_name name = of_plain FitsName name
@@ -68,12 +68,12 @@ fits_name name = of_plain FitsName name
       int2 = λ ty is some. rw is refl;
       int4 = λ ty is some. rw is refl;
       int8 = λ ty is some. rw is refl;
-      numeric = λ ty is some. absurd (not_shown ty is some);
+      numeric = λ ty is some. rw is refl;
       text = λ ty is some. rw is refl;
       varchar = λ ty is some. rw is refl;
       bpchar = λ ty is some. rw is refl;
-      bytea = λ ty is some. absurd (not_shown ty is some);
-      date = λ ty is some. absurd (not_shown ty is some);
+      bytea = λ ty is some. rw is refl;
+      date = λ ty is some. rw is refl;
     })
 
 -- ---- one argument

@@ -1,9 +1,14 @@
 -- Constants that texts are.
-use Rattle.std.proofs.Common.{◌≡◌, ℕ, List, true, false, refl, slice_get, Some, Result, Ok, Err}
+use Rattle.std.proofs.Common.{◌≡◌, ℕ, ◌/◌, List, true, false, refl, ap, ◌∙◌, slice_get, Some, Result, Ok, Err}
+use Rattle.std.specs.Fmt.{decimal}
+use Rattle.std.proofs.Math.Nat.{div-one}
+use Rattle.std.proofs.lemmas.List.{append-nil}
 use Rattle.xp_base.specs.OrMemory.{OrMemory}
 use Rattle.xp_base.specs.declared.codes.EvalError.{EvalError}
+use Rattle.xp_base.specs.declared.decimal.Dec.{Dec}
 use Rattle.xp_base.specs.declared.numbers.TypeNo.{TypeNo}
 use Rattle.xp_value.specs.declared.value.Value.{Value}
+use Rattle.xp_numeric.specs.Texts.{text}
 use Rattle.xp_catalog.specs.declared.header.HeaderColumn.{HeaderColumn}
 use Rattle.xp_catalog.specs.Contents.{Contents}
 use Rattle.xp_catalog.specs.Headers.{column_named}
@@ -53,3 +58,7 @@ pub column_is : (scene : Scene) (at : ℕ) (name : List ℕ) (progress : Progres
     → OrMemory is_memory (literals.column_of scene at name progress place found.ty) r
     → OrMemory is_memory (literals.named_column scene at name progress) r
 column_is scene at name progress place found r is there e = rw (is, there) e
+
+-- the text of a whole number is its digits
+pub whole_text : (x : Dec) → x.scale ≡ 0 → x.neg ≡ false → text x ≡ decimal x.coef
+whole_text x whole positive = rw (whole, positive) (append-nil (decimal (x.coef / 1)) ∙ ap decimal (div-one x.coef))

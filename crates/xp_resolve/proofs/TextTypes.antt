@@ -16,7 +16,7 @@ use Rattle.xp_types.specs.Readers as types
 use Rattle.xp_types.specs.Paths.{is_domain}
 use Rattle.xp_tree.specs.declared.parts.NodeType.{NodeType}
 use Rattle.xp_tree.specs.Typed.{IsArray, may_be_text}
-use Rattle.xp_io.specs.Representations.{built, element_rep, rep_of}
+use Rattle.xp_io.specs.Representations.{element_rep, rep_of}
 use Rattle.xp_named.proofs.ArrayTypes.{array_over, named_so}
 use Rattle.xp_coerce.specs.Types.{node_type}
 use Rattle.xp_coerce.proofs.Strings.{domain_named}
@@ -24,10 +24,10 @@ use Rattle.xp_coerce.proofs.Typing.{array_kept, is_array}
 use Rattle.xp_resolve.proofs.NodeLists.{base_of_array, element_kept}
 
 -- a type of a plain type's name is that type, or isn't represented
-pub plain_kept : (c : Contents) (type : TypeNo) (name : List ℕ) → IsWellFormed c → name_of c type ≡ name → is_among plain_names name ≡ true → (rep_of c type ≡ built (rep_named name)) ⊎ (rep_of c type ≡ rep.Opaque)
+pub plain_kept : (c : Contents) (type : TypeNo) (name : List ℕ) → IsWellFormed c → name_of c type ≡ name → is_among plain_names name ≡ true → (rep_of c type ≡ rep_named name) ⊎ (rep_of c type ≡ rep.Opaque)
 plain_kept c type name well called among = go (kind_of c type) refl
   where
-    go : (k : TypeKind) → kind_of c type ≡ k → (rep_of c type ≡ built (rep_named name)) ⊎ (rep_of c type ≡ rep.Opaque)
+    go : (k : TypeKind) → kind_of c type ≡ k → (rep_of c type ≡ rep_named name) ⊎ (rep_of c type ≡ rep.Opaque)
     go kind.Plain is = inl (rw (is, is, called) refl)
     go (kind.Pseudo pseudo) is = inr (rw (is, is) refl)
     go (kind.Array inner) is = inr (rw (is, is) refl)

@@ -1,5 +1,5 @@
 //! Calls of functions.
-ghost use Rattle.std.specs.Prelude.{◌≡◌, ◌<◌, ◌≤◌, ◌-◌, IfOk, IfSome, Some, drop, length, true};
+ghost use Rattle.std.specs.Prelude.{◌≡◌, ◌<◌, ◌≤◌, ◌-◌, ◌++◌, ◌∷◌, [], IfOk, IfSome, Some, drop, length, true};
 ghost use Rattle.std.specs.List.{All};
 ghost use Rattle.xp_base.specs.OrMemory.{OrMemory};
 ghost use Rattle.xp_bodies.specs.Fits.{IsFitted};
@@ -148,6 +148,69 @@ fn as_written(alloc: Global, order: Order, targets: &[Target]) -> Result<Targets
     in_order(order, Items::from_slice(alloc, targets)?)
 }
 
+/// The overloads that are chosen, with one more.
+fn with_use(uses: Uses, used: Use) -> Result<Uses, Memory>
+    ensures { IfOk result (λ all. all ≡ uses ++ used ∷ []) }
+{
+    let mut all = uses;
+    push(&mut all, used)?;
+    Ok(all)
+}
+
+/// The call over arguments that are written in its order.
+fn written_made(
+    alloc: Global,
+    scene: &Scene<'_>,
+    at: u64,
+    before: u64,
+    gathered: Gathered,
+    used: Use,
+    choice: &Choice,
+) -> Result<Made, Refusal>
+    requires scene { IsScene scene.now }
+    requires sources { AreSources scene.now.c gathered.parts }
+    requires choice { IsChoice scene.now.c choice.now }
+    requires lengths { length gathered.parts ≡ length choice.now.targets }
+    ensures value { OrMemory is_memory (spec.choice_made scene.now Order.AsWritten at before gathered used choice.now) result }
+    ensures source { IfOk result (λ m. IsSource scene.now.c m.part.tree) }
+{
+    let Gathered {
+        parts,
+        progress: Progress { nodes, uses },
+    } = gathered;
+    let all = arguments(alloc, scene, at, nodes, parts, choice.targets.as_slice())?;
+    let uses = with_use(uses, used)?;
+    call_made(alloc, scene, at, before, uses, choice, all.trees)
+}
+
+/// The call over two arguments of which the second is written first.
+fn swapped_made(
+    alloc: Global,
+    scene: &Scene<'_>,
+    at: u64,
+    before: u64,
+    gathered: Gathered,
+    used: Use,
+    choice: &Choice,
+) -> Result<Made, Refusal>
+    requires scene { IsScene scene.now }
+    requires sources { AreSources scene.now.c gathered.parts }
+    requires choice { IsChoice scene.now.c choice.now }
+    requires lengths { length gathered.parts ≡ length choice.now.targets }
+    ensures value { OrMemory is_memory (spec.choice_made scene.now Order.Swapped at before gathered used choice.now) result }
+    ensures source { IfOk result (λ m. IsSource scene.now.c m.part.tree) }
+{
+    let Gathered {
+        parts,
+        progress: Progress { nodes, uses },
+    } = gathered;
+    let targets = as_written(alloc, Order::Swapped, choice.targets.as_slice())?;
+    let all = arguments(alloc, scene, at, nodes, parts, targets.as_slice())?;
+    let trees = in_order(Order::Swapped, all.trees)?;
+    let uses = with_use(uses, used)?;
+    call_made(alloc, scene, at, before, uses, choice, trees)
+}
+
 /// The call of what is chosen: its arguments are converted as they are written, and then it is made.
 pub fn choice_made(
     alloc: Global,
@@ -166,16 +229,10 @@ pub fn choice_made(
     ensures value { OrMemory is_memory (spec.choice_made scene.now order at before gathered used choice) result }
     ensures source { IfOk result (λ m. IsSource scene.now.c m.part.tree) }
 {
-    let Gathered {
-        parts,
-        progress: Progress { nodes, uses },
-    } = gathered;
-    let targets = as_written(alloc, order, choice.targets.as_slice())?;
-    let all = arguments(alloc, scene, at, nodes, parts, targets.as_slice())?;
-    let trees = in_order(order, all.trees)?;
-    let mut uses = uses;
-    push(&mut uses, used)?;
-    call_made(alloc, scene, at, before, uses, &choice, trees)
+    match order {
+        Order::AsWritten => written_made(alloc, scene, at, before, gathered, used, &choice),
+        Order::Swapped => swapped_made(alloc, scene, at, before, gathered, used, &choice),
+    }
 }
 
 /// The argument, cast to the type.

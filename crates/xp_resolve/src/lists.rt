@@ -1,13 +1,31 @@
 //! Lists that are taken from their ends.
 ghost use Rattle.std.specs.Prelude.{◌≡◌, ◌≤◌, ◌++◌, ◌∷◌, [], IfOk, OnOk, length, reverse};
+ghost use Rattle.xp_resolve.specs.Order as spec;
 
 use sqlite_items::Items;
 use std::alloc::Global;
 use xp_base::Memory;
 
-/// The last first.
+/// Two, the second first; any other list stays.
+pub fn swapped<T: Drop>(items: Items<T>) -> Result<Items<T>, Memory>
+    ensures { IfOk result (λ list. list ≡ spec.swapped items) }
+{
+    let mut list = items;
+    if list.len() != 2 {
+        return Ok(list);
+    }
+    if let Some(second) = list.pop() {
+        if let Some(first) = list.pop() {
+            push(&mut list, second)?;
+            push(&mut list, first)?;
+        }
+    }
+    Ok(list)
+}
+
+/// All, the last first, in a list of their own.
 #[tactic(auto, using(crate::proofs::Queues::moved))]
-pub fn reversed<T: Drop>(alloc: Global, items: Items<T>) -> Result<Items<T>, Memory>
+fn turned<T: Drop>(alloc: Global, items: Items<T>) -> Result<Items<T>, Memory>
     ensures { IfOk result (λ turned. turned ≡ reverse items) }
 {
     let mut left = items;
@@ -16,6 +34,20 @@ pub fn reversed<T: Drop>(alloc: Global, items: Items<T>) -> Result<Items<T>, Mem
         turned.push(item)?;
     }
     Ok(turned)
+}
+
+/// The last first; one or two need no other list.
+#[tactic(auto, using(crate::proofs::Queues::one_turned, crate::proofs::Queues::two_turned))]
+pub fn reversed<T: Drop>(alloc: Global, items: Items<T>) -> Result<Items<T>, Memory>
+    ensures { IfOk result (λ turned. turned ≡ reverse items) }
+{
+    if items.len() < 2 {
+        return Ok(items);
+    }
+    if items.len() == 2 {
+        return swapped(items);
+    }
+    turned(alloc, items)
 }
 
 /// So many of the last ones, the last first, which are taken off.

@@ -1,9 +1,11 @@
 //! Constants, columns and VALUE (manual 4.1.2, 4.2.1, CREATE DOMAIN).
-ghost use Rattle.std.specs.Prelude.{◌≡◌, ◌<◌, ◌^◌, IfOk, true};
+ghost use Rattle.std.specs.Prelude.{◌≡◌, ◌<◌, ◌^◌, IfOk, IfSome, true};
+ghost use Rattle.std.specs.Fmt.{decimal};
 ghost use Rattle.xp_base.specs.OrMemory.{OrMemory};
 ghost use Rattle.xp_coerce.specs.Asked.{IsSource};
 ghost use Rattle.xp_named.specs.Named.{IsNamed};
 ghost use Rattle.xp_coerce.specs.Types.{node_type};
+ghost use Rattle.xp_numeric.specs.Texts.{text};
 ghost use Rattle.xp_tree.specs.Term.{column, given, leaf};
 ghost use Rattle.xp_types.specs.Readers.{is_known};
 ghost use Rattle.xp_types.specs.Within.{IsType};
@@ -14,6 +16,7 @@ ghost use Rattle.xp_resolve.specs.inner.Sources.{IsScene, IsValued};
 use crate::conversions::refusal_of;
 use crate::made::{Made, Progress, finished, refused};
 use crate::scene::Scene;
+use itoa::Buffer;
 use std::alloc::Global;
 use xp_base::{Byts, Code, Dec, EvalError, Memory, Name, Txt, TypeNo, VALUE_LIMIT};
 use xp_catalog::{Catalog, Context};
@@ -168,6 +171,52 @@ fn number_type(number: Dec, whole: bool) -> &'static str
     }
 }
 
+/// The constant of a whole number, whose digits take no memory.
+fn whole_number(
+    alloc: Global,
+    scene: &Scene<'_>,
+    at: u64,
+    name: &str,
+    coef: u64,
+    progress: Progress,
+) -> Result<Made, Refusal>
+    ensures value { OrMemory is_memory (spec.constant_named scene.now at name.now (decimal coef) progress) result }
+    ensures source { IfOk result (λ made. IsSource scene.now.c made.part.tree) }
+{
+    let mut digits = Buffer::new();
+    let text = digits.format(coef).as_bytes();
+    constant_named(alloc, scene, at, name, text, progress)
+}
+
+/// The constant of any number, by its text.
+fn written_number(
+    alloc: Global,
+    scene: &Scene<'_>,
+    at: u64,
+    name: &str,
+    value: Dec,
+    progress: Progress,
+) -> Result<Made, Refusal>
+    ensures value { OrMemory is_memory (spec.constant_named scene.now at name.now (text value) progress) result }
+    ensures source { IfOk result (λ made. IsSource scene.now.c made.part.tree) }
+{
+    let mut text = Byts::new(alloc);
+    write_numeric(value, &mut text)?;
+    constant_named(alloc, scene, at, name, text.as_slice(), progress)
+}
+
+/// The digits of a number that is nothing else.
+#[tactic(auto, using(crate::proofs::Reading::whole_text))]
+fn digits_of(value: Dec) -> Option<u64>
+    ensures { IfSome result (λ digits. text value ≡ decimal digits) }
+{
+    if value.scale == 0 && !value.neg && value.coef < 1 << 64 {
+        Some(value.coef as u64)
+    } else {
+        None
+    }
+}
+
 /// A numeric constant (manual 4.1.2.6).
 pub fn number(
     alloc: Global,
@@ -180,10 +229,11 @@ pub fn number(
     ensures value { OrMemory is_memory (spec.number scene.now at value whole progress) result }
     ensures source { IfOk result (λ made. IsSource scene.now.c made.part.tree) }
 {
-    let mut text = Byts::new(alloc);
-    write_numeric(value, &mut text)?;
     let name = number_type(value, whole);
-    constant_named(alloc, scene, at, name, text.as_slice(), progress)
+    match digits_of(value) {
+        Some(digits) => whole_number(alloc, scene, at, name, digits, progress),
+        None => written_number(alloc, scene, at, name, value, progress),
+    }
 }
 
 fn truth_text(value: bool) -> &'static str

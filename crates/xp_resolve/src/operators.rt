@@ -1,16 +1,17 @@
 //! Operators.
-ghost use Rattle.std.specs.Prelude.{◌≡◌, ◌<◌, ◌≤◌, IfOk, length};
+ghost use Rattle.std.specs.Prelude.{◌≡◌, ◌<◌, ◌≤◌, ◌∷◌, [], IfOk, IfSome, length};
 ghost use Rattle.xp_base.specs.OrMemory.{OrMemory};
 ghost use Rattle.xp_base.specs.declared.limits.TheConstants.{ARGUMENT_LIMIT};
 ghost use Rattle.xp_coerce.specs.Asked.{IsSource};
 ghost use Rattle.xp_types.specs.Within.{AreTypes};
+ghost use Rattle.xp_resolve.specs.Calls.{types_of};
 ghost use Rattle.xp_resolve.specs.Operators as spec;
 ghost use Rattle.xp_resolve.specs.Made.{is_memory};
 ghost use Rattle.xp_resolve.specs.inner.Sources.{AreSources, IsScene};
 
 use crate::calls::{choice_made, inputs_of, refusal_of};
 use crate::choice::chosen_call;
-use crate::made::{Gathered, Made};
+use crate::made::{Gathered, Made, Part};
 use crate::order::Order;
 use crate::scene::Scene;
 use crate::typed::Use;
@@ -104,6 +105,18 @@ fn operated_over(
     }
 }
 
+/// The types of two operands, which take no list.
+fn pair_of(scene: &Scene<'_>, parts: &[Part]) -> Option<(TypeNo, TypeNo)>
+    requires { AreSources scene.now.c parts.now }
+    ensures value { IfSome result (λ pair. types_of parts.now ≡ pair.0 ∷ pair.1 ∷ []) }
+    ensures within { IfSome result (λ pair. AreTypes scene.now.c (pair.0 ∷ pair.1 ∷ [])) }
+{
+    match parts {
+        [left, right] => Some((left.tree.type_of(), right.tree.type_of())),
+        _ => None,
+    }
+}
+
 /// The operator of that name over one operand, or over left and right, beside trees of `before` nodes.
 pub fn operated(
     alloc: Global,
@@ -120,6 +133,9 @@ pub fn operated(
     ensures source { IfOk result (λ m. IsSource scene.now.c m.part.tree) }
 {
     let parts = gathered.parts.as_slice();
+    if let Some((left, right)) = pair_of(scene, parts) {
+        return operated_over(alloc, scene, at, name, before, gathered, &[left, right]);
+    }
     let inputs = inputs_of(alloc, scene.catalog(), Order::AsWritten, parts)?;
     operated_over(alloc, scene, at, name, before, gathered, inputs.as_slice())
 }

@@ -2,7 +2,7 @@
 ghost use Rattle.std.specs.Prelude.{◌≡◌, IfOk};
 ghost use Rattle.xp_resolve.specs.Order as spec;
 
-use crate::lists::push;
+use crate::lists::swapped;
 use sqlite_items::Items;
 use xp_base::Memory;
 
@@ -11,23 +11,6 @@ pub enum Order {
     AsWritten,
     /// The second is written before the first.
     Swapped,
-}
-
-/// Two, the second first; any other list stays.
-fn swapped<T: Drop>(list: Items<T>) -> Result<Items<T>, Memory>
-    ensures { IfOk result (λ l. l ≡ spec.swapped list) }
-{
-    let mut list = list;
-    if list.len() != 2 {
-        return Ok(list);
-    }
-    if let Some(second) = list.pop() {
-        if let Some(first) = list.pop() {
-            push(&mut list, second)?;
-            push(&mut list, first)?;
-        }
-    }
-    Ok(list)
 }
 
 /// What is written in that order in the other one.

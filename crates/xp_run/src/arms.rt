@@ -10,7 +10,7 @@ ghost use Rattle.xp_run.specs.inner.Arms.{count_after, row_text, rows_text};
 ghost use Rattle.xp_run.specs.inner.Writing.{Writes};
 
 use crate::lines;
-use crate::printer::RowPrinter;
+use crate::printer::Printer;
 use crate::writing::{WriteError, put_line};
 use std::alloc::Global;
 use xp_analyse::TypedArm;
@@ -42,7 +42,7 @@ fn write_row<K: Sink>(
     trees: &[Tree],
     row: &[Value],
     before: u128,
-    printer: &mut RowPrinter,
+    printer: &mut Printer,
     out: &mut K,
 ) -> Result<bool, WriteError>
     requires ready { all_evaluable is_built (terms trees.now) ≡ true }
@@ -53,8 +53,8 @@ fn write_row<K: Sink>(
 {
     match eval_all(alloc, trees, row) {
         Ok(values) => {
-            printer.print(values.as_slice())?;
-            put_line(printer.line(), out)?;
+            printer.rows.print(values.as_slice())?;
+            put_line(printer.rows.line(), out)?;
             Ok(true)
         }
         Err(CallFault::Raised(error)) => {
@@ -75,7 +75,7 @@ fn write_over<K: Sink>(
     trees: &[Tree],
     rows: &[Row],
     before: u128,
-    printer: &mut RowPrinter,
+    printer: &mut Printer,
     out: &mut K,
 ) -> Result<Option<u128>, WriteError>
     requires ready { all_evaluable is_built (terms trees.now) ≡ true }
@@ -101,7 +101,7 @@ fn write_arm<K: Sink>(
     arm: &TypedArm,
     rows: &[Row],
     before: u128,
-    printer: &mut RowPrinter,
+    printer: &mut Printer,
     out: &mut K,
 ) -> Result<Option<u128>, WriteError>
     requires ready { all_evaluable is_built (terms arm.now.trees) ≡ true }
@@ -126,7 +126,7 @@ pub fn write_rows<K: Sink>(
     k: u64,
     arms: &[TypedArm],
     rows: &[Row],
-    printer: &mut RowPrinter,
+    printer: &mut Printer,
     out: &mut K,
 ) -> Result<Option<u128>, WriteError>
     requires { AreReady arms.now }

@@ -11,7 +11,7 @@ use crate::analysis::Analysis;
 use crate::arms::{first_early, write_rows};
 use crate::inputs::Inputs;
 use crate::lines;
-use crate::printer::RowPrinter;
+use crate::printer::Printer;
 use crate::writing::{WriteError, put_line};
 use std::alloc::Global;
 use xp_analyse::{Typed, TypedArm, Use};
@@ -21,16 +21,17 @@ use xp_value::Row;
 
 #[tactic(auto, using(crate::proofs::Written::writes_nothing))]
 fn write_types<K: Sink>(
-    alloc: Global,
     catalog: &Catalog,
     k: u64,
     types: &[TypeNo],
+    line: &mut String,
     out: &mut K,
 ) -> Result<(), WriteError>
     ensures wrote { Writes (K.contents out.old) (K.contents out.new) (types_line k (type_names catalog.now types.now)) (K.faults out.old) (K.faults out.new) result }
     ensures rises { K.faults out.old ≤ K.faults out.new }
 {
-    put_line(lines::types(alloc, catalog, k, types)?.as_bytes(), out)
+    lines::types(catalog, k, types, line)?;
+    put_line(line.as_bytes(), out)
 }
 
 #[tactic(auto, using(crate::proofs::Written::writes_nothing))]
@@ -52,11 +53,12 @@ fn write_uses<K: Sink>(
 
 /// Writes `-- K ok ROWS`.
 #[tactic(auto, using(crate::proofs::Written::writes_nothing))]
-fn write_ok<K: Sink>(alloc: Global, k: u64, rows: u128, out: &mut K) -> Result<(), WriteError>
+fn write_ok<K: Sink>(k: u64, rows: u128, line: &mut String, out: &mut K) -> Result<(), WriteError>
     ensures wrote { Writes (K.contents out.old) (K.contents out.new) (ok_line k rows) (K.faults out.old) (K.faults out.new) result }
     ensures rises { K.faults out.old ≤ K.faults out.new }
 {
-    put_line(lines::ok(alloc, k, rows)?.as_bytes(), out)
+    lines::ok(k, rows, line)?;
+    put_line(line.as_bytes(), out)
 }
 
 /// Writes the overloads that are chosen, and the line behind them.
@@ -65,13 +67,14 @@ fn write_described<K: Sink>(
     catalog: &Catalog,
     k: u64,
     uses: &[Use],
+    line: &mut String,
     out: &mut K,
 ) -> Result<(), WriteError>
     ensures wrote { Writes (K.contents out.old) (K.contents out.new) (concat (uses_lines catalog.now k uses.now ++ ok_line k 0 ∷ [])) (K.faults out.old) (K.faults out.new) result }
     ensures rises { K.faults out.old ≤ K.faults out.new }
 {
     write_uses(alloc, catalog, k, uses, out)?;
-    write_ok(alloc, k, 0, out)
+    write_ok(k, 0, line, out)
 }
 
 /// Writes the output rows, and the line behind them. At `Ok`, says whether that line is `ok`.
@@ -80,7 +83,7 @@ fn write_evaluated<K: Sink>(
     k: u64,
     arms: &[TypedArm],
     rows: &[Row],
-    printer: &mut RowPrinter,
+    printer: &mut Printer,
     out: &mut K,
 ) -> Result<bool, WriteError>
     requires { AreReady arms.now }
@@ -90,7 +93,7 @@ fn write_evaluated<K: Sink>(
 {
     match write_rows(alloc, k, arms, rows, printer, out)? {
         Some(count) => {
-            write_ok(alloc, k, count, out)?;
+            write_ok(k, count, &mut printer.line, out)?;
             Ok(true)
         }
         None => Ok(false),
@@ -104,7 +107,7 @@ fn write_outcome<K: Sink>(
     k: u64,
     arms: &[TypedArm],
     rows: &[Row],
-    printer: &mut RowPrinter,
+    printer: &mut Printer,
     out: &mut K,
 ) -> Result<bool, WriteError>
     requires { AreReady arms.now }
@@ -127,7 +130,7 @@ pub fn write_block<K: Sink>(
     inputs: &Inputs,
     k: u64,
     analysis: &Analysis,
-    printer: &mut RowPrinter,
+    printer: &mut Printer,
     out: &mut K,
 ) -> Result<bool, WriteError>
     requires { IsReady analysis.now }
@@ -141,12 +144,14 @@ pub fn write_block<K: Sink>(
             Ok(false)
         }
         Analysis::Described(typed) => {
-            write_types(alloc, &inputs.catalog, k, typed.types.as_slice(), out)?;
-            write_described(alloc, &inputs.catalog, k, typed.uses.as_slice(), out)?;
+            let (catalog, line) = (&inputs.catalog, &mut printer.line);
+            write_types(catalog, k, typed.types.as_slice(), line, out)?;
+            write_described(alloc, catalog, k, typed.uses.as_slice(), line, out)?;
             Ok(true)
         }
         Analysis::Evaluated(typed) => {
-            write_types(alloc, &inputs.catalog, k, typed.types.as_slice(), out)?;
+            let types = typed.types.as_slice();
+            write_types(&inputs.catalog, k, types, &mut printer.line, out)?;
             let (arms, rows) = (typed.arms.as_slice(), inputs.rows.as_slice());
             write_outcome(alloc, k, arms, rows, printer, out)
         }

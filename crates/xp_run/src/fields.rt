@@ -6,6 +6,7 @@ ghost use Rattle.xp_rows.specs.Fields.{begins_with_two};
 ghost use Rattle.xp_run.specs.Fields.{escaped, field_of, needs_backslash};
 
 use csv::ByteRecord;
+use itoa::Buffer;
 use std::alloc::Global;
 use xp_base::{Byts, Memory};
 use xp_io::write_text;
@@ -24,33 +25,36 @@ fn needs_backslash(text: &[u8]) -> bool
     text == b"\\N".as_slice() || begins_with_two(text)
 }
 
-/// The field of a value that isn't null.
-fn text_field(alloc: Global, value: &Value) -> Result<Byts, Memory>
-    ensures { IfOk result (λ field. field ≡ escaped (output value.now)) }
+/// Adds the field of a text to a record.
+fn push_text(alloc: Global, text: &[u8], row: &mut ByteRecord) -> Result<(), Memory>
+    requires { partial_of row.old ≡ [] }
+    ensures fields { OnOk result (fields_of row.new ≡ fields_of row.old ++ escaped text.now ∷ []) }
+    ensures partial { OnOk result (partial_of row.new ≡ []) }
 {
-    let mut text = Byts::new(alloc);
-    write_text(value, &mut text)?;
-    if !needs_backslash(text.as_slice()) {
-        return Ok(text);
+    if !needs_backslash(text) {
+        return Ok(row.push_field(text)?);
     }
     let mut field = Byts::new(alloc);
     field.append(b"\\")?;
-    field.append(text.as_slice())?;
-    Ok(field)
+    field.append(text)?;
+    Ok(row.push_field(field.as_slice())?)
 }
 
-/// Adds the field of a value to a record.
+/// Adds the field of a value to a record. A whole number's digits take no memory of their own.
 fn push_value(alloc: Global, value: &Value, row: &mut ByteRecord) -> Result<(), Memory>
     requires { partial_of row.old ≡ [] }
     ensures fields { OnOk result (fields_of row.new ≡ fields_of row.old ++ field_of value.now ∷ []) }
     ensures partial { OnOk result (partial_of row.new ≡ []) }
 {
-    if let Value::Null = value {
-        row.push_field(b"\\N")?;
-    } else {
-        row.push_field(text_field(alloc, value)?.as_slice())?;
+    match value {
+        Value::Null => Ok(row.push_field(b"\\N")?),
+        Value::Int(number) => push_text(alloc, Buffer::new().format(*number).as_bytes(), row),
+        _ => {
+            let mut text = Byts::new(alloc);
+            write_text(alloc, value, &mut text)?;
+            push_text(alloc, text.as_slice(), row)
+        }
     }
-    Ok(())
 }
 
 /// Makes the record that of a row.

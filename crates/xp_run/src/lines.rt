@@ -1,25 +1,38 @@
 //! The numbered lines of a block, each with the newline that ends it.
-ghost use Rattle.std.specs.Prelude.{◌≡◌, IfOk, string_bytes};
+ghost use Rattle.std.specs.Prelude.{◌≡◌, ◌++◌, IfOk, OnOk, codes, string_bytes};
+ghost use Rattle.std.specs.Fmt.{decimal};
 ghost use Rattle.xp_run.specs.Blocks.{early_line, error_line, ok_line, refused_line, types_line, uses_line};
 ghost use Rattle.xp_run.specs.Uses.{type_names, use_words};
 
-use crate::uses::{names_of, use_words};
+use crate::uses::{push_names, use_words};
+use itoa::Buffer;
 use std::alloc::{AllocError, Global};
 use xp_analyse::Use;
 use xp_base::{Code, TypeNo};
 use xp_catalog::Catalog;
 
+/// The front of a line: the number of its statement, and its word.
+fn begin(k: u64, word: &str, line: &mut String) -> Result<(), AllocError>
+    ensures { OnOk result (string_bytes line.new ≡ codes "-- " ++ decimal k ++ word.now) }
+{
+    line.clear();
+    line.push_str("-- ")?;
+    line.push_str(Buffer::new().format(k))?;
+    line.push_str(word)
+}
+
 /// `-- K types T,T`
 pub fn types(
-    alloc: Global,
     catalog: &Catalog,
     k: u64,
     types: &[TypeNo],
-) -> Result<String, AllocError>
-    ensures { IfOk result (λ line. string_bytes line ≡ types_line k (type_names catalog.now types.now)) }
+    line: &mut String,
+) -> Result<(), AllocError>
+    ensures { OnOk result (string_bytes line.new ≡ types_line k (type_names catalog.now types.now)) }
 {
-    let names = names_of(alloc, catalog, types)?;
-    format!(in alloc; "-- {k} types {names}\n")
+    begin(k, " types ", line)?;
+    push_names(catalog, types, line)?;
+    line.push_str("\n")
 }
 
 /// `-- K uses WORDS`
@@ -31,10 +44,12 @@ pub fn uses(alloc: Global, catalog: &Catalog, k: u64, one: Use) -> Result<String
 }
 
 /// `-- K ok ROWS`
-pub fn ok(alloc: Global, k: u64, rows: u128) -> Result<String, AllocError>
-    ensures { IfOk result (λ line. string_bytes line ≡ ok_line k rows) }
+pub fn ok(k: u64, rows: u128, line: &mut String) -> Result<(), AllocError>
+    ensures { OnOk result (string_bytes line.new ≡ ok_line k rows) }
 {
-    format!(in alloc; "-- {k} ok {rows}\n")
+    begin(k, " ok ", line)?;
+    line.push_str(Buffer::new().format(rows))?;
+    line.push_str("\n")
 }
 
 /// `-- K error CODE early`

@@ -112,3 +112,19 @@ impl RowPrinter {
         Ok(())
     }
 }
+
+/// What lines are made in, kept from one line to the next.
+#[derive(Drop)]
+pub struct Printer {
+    pub line: String,
+    pub rows: RowPrinter,
+}
+
+impl Printer {
+    pub fn new(alloc: Global) -> Printer {
+        Printer {
+            line: String::new(alloc),
+            rows: RowPrinter::new(alloc),
+        }
+    }
+}

@@ -9,7 +9,7 @@ ghost use Rattle.xp_run.specs.inner.Writing.{Writes};
 use crate::analysis::Analysis;
 use crate::block::write_block;
 use crate::inputs::Inputs;
-use crate::printer::RowPrinter;
+use crate::printer::Printer;
 use crate::script::{NextStatement, next_statement};
 use crate::writing::WriteError;
 use std::alloc::Global;
@@ -28,7 +28,7 @@ fn write_some<K: Sink>(
     inputs: &Inputs,
     analysis: Option<Analysis>,
     tally: Tally,
-    printer: &mut RowPrinter,
+    printer: &mut Printer,
     out: &mut K,
 ) -> Result<Tally, WriteError>
     requires ready { AreReadied analysis }
@@ -62,7 +62,7 @@ pub fn write_report<K: Sink>(
     ensures steps { OnOk result (steps_in (report inputs.now) ≡ 0) }
     ensures rises { K.faults out.old ≤ K.faults out.new }
 {
-    let mut printer = RowPrinter::new(alloc);
+    let mut printer = Printer::new(alloc);
     let mut at: u64 = 0;
     let mut tally = Tally {
         next: 1,

@@ -1,5 +1,5 @@
 //! The words of the overloads that are chosen.
-ghost use Rattle.std.specs.Prelude.{◌≡◌, [], IfOk, slice_get, string_bytes};
+ghost use Rattle.std.specs.Prelude.{◌≡◌, ◌++◌, [], IfOk, OnOk, slice_get, string_bytes};
 ghost use Rattle.std.specs.Option.{option_map_or};
 ghost use Rattle.xp_run.specs.Uses.{argument_names, function_words, operand_names, operator_words, type_name, type_names, use_words};
 
@@ -19,19 +19,19 @@ fn name_of(catalog: &Catalog, ty: TypeNo) -> &str
     }
 }
 
-/// The names of the types, with commas between.
-pub fn names_of(alloc: Global, catalog: &Catalog, types: &[TypeNo]) -> Result<String, AllocError>
-    ensures { IfOk result (λ names. string_bytes names ≡ type_names catalog.now types.now) }
+/// Adds the names of the types, with commas between.
+pub fn push_names(catalog: &Catalog, types: &[TypeNo], out: &mut String) -> Result<(), AllocError>
+    ensures { OnOk result (string_bytes out.new ≡ string_bytes out.old ++ type_names catalog.now types.now) }
 {
     let [first, others @ ..] = types else {
-        return Ok(String::new(alloc));
+        return Ok(());
     };
-    let mut names = String::from_str(alloc, name_of(catalog, *first))?;
+    out.push_str(name_of(catalog, *first))?;
     for other in others {
-        names.push_str(",")?;
-        names.push_str(name_of(catalog, *other))?;
+        out.push_str(",")?;
+        out.push_str(name_of(catalog, *other))?;
     }
-    Ok(names)
+    Ok(())
 }
 
 /// The declared types of a function's arguments, with commas between. In a variadic record the last

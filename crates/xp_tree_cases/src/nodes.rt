@@ -12,6 +12,12 @@ fn put_value(out: &mut String, value: &Value) -> Result<()> {
         Value::Null => write!(out, " null")?,
         Value::Bool(truth) => write!(out, " {truth}")?,
         Value::Int(number) => write!(out, " {number}")?,
+        Value::Num(number) => {
+            let sign = if number.neg { "-" } else { "" };
+            write!(out, " {sign}{}/{}", number.coef, number.scale)?
+        }
+        Value::Bytes(bytes) => write!(out, " {:?}", bytes.as_slice())?,
+        Value::Day(day) => write!(out, " {day}")?,
         Value::Text(text) => write!(out, " '{}'", text.as_str())?,
         Value::Pad(text) => write!(out, " padded '{}'", text.as_str())?,
         Value::Opaque(text) => write!(out, " opaque '{}'", text.as_str())?,

@@ -1,8 +1,12 @@
-use Rattle.std.proofs.Common.{◌≡◌, ◌∙◌, ◌++◌, ap}
+use Rattle.std.proofs.Common.{◌≡◌}
+use Rattle.std.specs.Fmt.{decimal}
 use Rattle.xp_numeric.specs.Texts.{text}
 use Rattle.xp_resolve.proofs.literals.number.Goals as goal
 
-pub returns-clause-value : goal.returns-clause-value
-returns-clause-value c =
-    let is : c.as_slice.result.now ≡ text c.args.value = c.as_slice.ensures ∙ c.in_ok-write_numeric.ensures.ok ∙ ap (λ out. out ++ text c.args.value) c.new-text.ensures in
-    rw (c.number_type-name.ensures, is) at c.constant_named.ensures.value
+pub returns-in-Some-clause-value : goal.returns-in-Some-clause-value
+returns-in-Some-clause-value c =
+    let same : text c.args.value ≡ decimal c.in-Some.digits = rw c.in-Some.is at c.digits_of.ensures in
+    rw (← c.number_type-name.ensures, same) c.whole_number.ensures.value
+
+pub returns-in-None-clause-value : goal.returns-in-None-clause-value
+returns-in-None-clause-value c = rw (← c.number_type-name.ensures) c.written_number.ensures.value

@@ -26,12 +26,12 @@ returns-in_err-write_types-in-Evaluated-clause-wrote g c =
     let p = err_from_is_err_and c.from_residual-in_err-write_types-in-Evaluated.result c.from_residual-in_err-write_types-in-Evaluated.ensures.1 in
     let catalog = c.args.inputs.now.catalog in
     let it = evaluation c.args.inputs.now.rows c.in-Evaluated.typed.arms in
-    rw (c.in-Evaluated.is, p.1, p.2) (stops_first _ _ (types_line c.args.k (type_names catalog c.in-Evaluated.typed.types)) (concat (outcome_lines c.args.k it.early it.rows)) _ _ _ _ refl (rw c.as_slice-in-Evaluated.ensures at c.in_err-write_types-in-Evaluated.ensures.wrote))
+    rw (c.in-Evaluated.is, p.1, p.2) (stops_first _ _ (types_line c.args.k (type_names catalog c.in-Evaluated.typed.types)) (concat (outcome_lines c.args.k it.early it.rows)) _ _ _ _ refl (rw c.as_slice-types.ensures at c.in_err-write_types-in-Evaluated.ensures.wrote))
 
 pub returns-in_ok-write_types-in-Evaluated-clause-wrote : goal.returns-in_ok-write_types-in-Evaluated-clause-wrote
 returns-in_ok-write_types-in-Evaluated-clause-wrote g c =
     let catalog = c.args.inputs.now.catalog in
     let it = evaluation c.args.inputs.now.rows c.in-Evaluated.typed.arms in
-    let w = rw c.as_slice-in-Evaluated.ensures at c.in_ok-write_types-in-Evaluated.ensures.wrote in
+    let w = rw c.as_slice-types.ensures at c.in_ok-write_types-in-Evaluated.ensures.wrote in
     rw c.in-Evaluated.is (writes_then _ _ _ (types_line c.args.k (type_names catalog c.in-Evaluated.typed.types)) (concat (outcome_lines c.args.k it.early it.rows)) _ _ _ _ c.write_outcome.result w.0 w.1
     (rw (c.as_slice-arms.ensures, c.as_slice-rows.ensures) at c.write_outcome.ensures.wrote) refl)

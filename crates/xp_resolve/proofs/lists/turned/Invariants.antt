@@ -1,5 +1,5 @@
 use Rattle.std.proofs.Common.{◌≡◌, ◌++◌, length, reverse}
-use Rattle.xp_resolve.proofs.lists.reversed.Given as goal
+use Rattle.xp_resolve.proofs.lists.turned.Given as goal
 
 -- what is left, and behind it what was turned, are all
 abbrev pub invariant-loop-item : goal.invariant-loop-item
