@@ -1,0 +1,3 @@
+mod Forms
+mod Gathering
+mod Halves
