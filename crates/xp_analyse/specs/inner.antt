@@ -1,2 +1,3 @@
 -- Words that only private contracts need.
 pub mod Ahead
+pub mod Views
