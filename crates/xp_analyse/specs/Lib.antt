@@ -1,5 +1,5 @@
-pub mod Begins
-pub mod Lists
+pub mod Expressions
+pub mod Built
 pub mod Statements
 pub mod Domains
 pub mod Checks
