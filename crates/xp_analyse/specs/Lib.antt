@@ -1,7 +1,6 @@
-pub mod Begins
-pub mod Lists
+pub mod Expressions
+pub mod Built
 pub mod Statements
 pub mod Domains
 pub mod Checks
 pub mod inner
-pub mod Untyped

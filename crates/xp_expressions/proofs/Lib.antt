@@ -1,4 +1,0 @@
-mod Forms
-mod Gathering
-mod Halves
-mod Filled
