@@ -1,5 +1,5 @@
 -- A domain is over a type that values may have.
-use Rattle.std.proofs.Common.{◌≡◌, ℕ, ◌+◌, ◌<◌, List, ◌∷◌, [], true, length, arith, Some}
+use Rattle.std.proofs.Common.{◌≡◌, ℕ, true, length, arith, Some}
 use Rattle.std.specs.List.{All, slice_get}
 use Rattle.std.proofs.lemmas.Bool.Decides.{nat_tests}
 use Rattle.std.proofs.lemmas.List.Elements.{All-push}

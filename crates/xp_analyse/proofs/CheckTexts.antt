@@ -1,5 +1,5 @@
 -- The tokens of a check's text.
-use Rattle.std.proofs.Common.{◌≡◌, ℕ, zero, suc, ◌-◌, ◌==◌, List, [], ◌∷◌, Bool, true, false, cond, length, map, refl, ap, ◌∙◌, subst, Some, None, Err, slice_get}
+use Rattle.std.proofs.Common.{◌≡◌, ℕ, zero, suc, ◌-◌, ◌==◌, List, [], ◌∷◌, true, false, cond, length, refl, ap, ◌∙◌, subst, None, Err, slice_get}
 use Rattle.std.specs.Prelude.{Result}
 use Rattle.std.specs.Bool.{MatchBool}
 use Rattle.std.specs.Option.{option_map_or}

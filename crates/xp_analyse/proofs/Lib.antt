@@ -1,7 +1,10 @@
 pub mod Gathering
+pub mod Listing
+pub mod Shapes
+pub mod Arms
+pub mod Viewing
 pub mod Settling
 pub mod Readying
-pub mod Forms
 pub mod Analysing
 pub mod BaseTypes
 pub mod Truths

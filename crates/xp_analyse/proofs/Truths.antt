@@ -1,5 +1,5 @@
 -- A tree that may be a check is a truth value.
-use Rattle.std.proofs.Common.{◌≡◌, ◌⊎◌, inl, inr, true, false, ◌&&◌, not, codes, refl, ap, ◌∙◌, Some}
+use Rattle.std.proofs.Common.{◌≡◌, inl, inr, true, false, ◌&&◌, not, codes, refl, ap, ◌∙◌, Some}
 use Rattle.std.proofs.lemmas.Bool.{and_parts}
 use Rattle.xp_value.specs.declared.value.Rep.TheVariants as rep
 use Rattle.xp_call.specs.Calls.{is_built}

@@ -25,12 +25,11 @@ use Rattle.xp_tree.specs.Term.{Term, type_of}
 use Rattle.xp_types.specs.Readers.{is_same}
 use Rattle.xp_resolve.specs.declared.made.Made.{Made}
 use Rattle.xp_resolve.specs.Scene.{Scene}
+use Rattle.xp_expressions.specs.Expressions.{resolved}
+use Rattle.xp_expressions.specs.Operands.{nothing_yet}
 use Rattle.xp_analyse.specs.declared.fault.CheckFault.{CheckFault}
 use Rattle.xp_analyse.specs.declared.fault.CheckFault.TheVariants.{BadCheck, Memory}
-use Rattle.xp_analyse.specs.Built.{is_built}
 use Rattle.xp_analyse.specs.Domains.{has_domain}
-use Rattle.xp_analyse.specs.Expressions.{resolved}
-use Rattle.xp_analyse.specs.Statements.{nothing_yet}
 
 -- ---- the expression that a text is: the one that DESCRIBE before it describes
 
@@ -78,7 +77,7 @@ kept_made c (Ok made) = kept c made.part.tree
 kept_made c (Err refusal) = None
 
 abbrev pub check_tree : Scene → Ast → Option Term
-check_tree scene expression = cond (is_built expression) (kept_made scene.c (resolved scene expression nothing_yet)) None
+check_tree scene expression = kept_made scene.c (resolved scene expression nothing_yet)
 
 -- ---- the check of a domain, behind those of the domains before it
 

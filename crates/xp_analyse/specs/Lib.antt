@@ -1,6 +1,7 @@
-pub mod Expressions
-pub mod Built
+pub mod Begins
+pub mod Lists
 pub mod Statements
 pub mod Domains
 pub mod Checks
 pub mod inner
+pub mod Untyped

@@ -1,2 +1,4 @@
 -- Words that only private contracts need.
 pub mod Ahead
+pub mod Views
+pub mod Untyped

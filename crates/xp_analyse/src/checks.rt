@@ -11,16 +11,14 @@ ghost use Rattle.xp_resolve.specs.inner.Sources.{IsScene, IsValued};
 ghost use Rattle.xp_analyse.specs.Checks as spec;
 ghost use Rattle.xp_analyse.specs.inner.Ahead.{AreBelow};
 
-use crate::built::is_built;
 use crate::domains::has_domain;
-use crate::expressions::resolve;
 use crate::fault::CheckFault;
-use crate::operands::nothing_yet;
 use crate::texts::{described_one, ends_behind, statement_text};
 use std::alloc::Global;
 use xp_base::{Memory, RowNo, SCRIPT_LIMIT, TypeNo};
 use xp_catalog::{Catalog, DomainRow, Header};
 use xp_eval::is_evaluable;
+use xp_expressions::{nothing_yet, resolve};
 use xp_grammar::Ast;
 use xp_lexer::{LexFault, lex};
 use xp_parser::{ParseFault, parse};
@@ -67,9 +65,6 @@ fn check_tree(alloc: Global, scene: &Scene<'_>, expression: &Ast) -> Result<Opti
     ensures value { IfOk result (λ check. check ≡ spec.check_tree scene.now expression.now) }
     ensures truth { IfOk result (λ check. IfSome check (λ t. IsBool (type_of t))) }
 {
-    if !is_built(expression) {
-        return Ok(None);
-    }
     match resolve(alloc, scene, expression, nothing_yet(alloc)) {
         Ok(made) => Ok(kept(scene.catalog(), made.part.tree)),
         Err(Refusal::At { .. }) => Ok(None),

@@ -1,22 +1,23 @@
 //! Analyses statements over a catalogue: the trees of their expressions with their types and the
 //! overloads that are chosen, or the first refusal with its byte (manual 4.2 and 10); and the checks
-//! of the catalogue's domains, before any statement. It stands on what each form means over operands
-//! that are resolved. It reads no script and evaluates nothing.
+//! of the catalogue's domains, before any statement. It stands on what an expression means and on how
+//! the columns of VALUES and of UNION ALL come to one type. It reads no script and evaluates nothing.
 #![tactic(auto)]
 
-mod built;
-mod casts;
+mod begins;
 mod checks;
 mod domains;
-mod expressions;
 mod fault;
-mod operands;
+mod gather;
+mod joined;
+mod lists;
 mod ready;
 mod settle;
 mod statement;
 mod store;
 mod texts;
 mod typed;
+mod untyped;
 
 pub use checks::prepare;
 pub use fault::CheckFault;

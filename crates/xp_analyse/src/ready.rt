@@ -2,32 +2,47 @@
 ghost use Rattle.std.specs.Prelude.{◌≡◌, IfNone, IfOk, length, map, true};
 ghost use Rattle.std.specs.List.{All};
 ghost use Rattle.xp_call.specs.Calls.{is_built};
-ghost use Rattle.xp_grammar.specs.declared.statement.Item.{Item};
 ghost use Rattle.xp_meaning.specs.Evaluable.{all_evaluable};
 ghost use Rattle.xp_tree.specs.Term.{terms};
 ghost use Rattle.xp_analyse.specs.Statements as spec;
+ghost use Rattle.xp_analyse.specs.inner.Views.{list_in, lists_in};
 
-use crate::built::first_of;
+use crate::begins::first_of;
+use crate::lists::{ExpressionList, ExpressionLists};
 use crate::typed::{TypeNos, Typed, TypedArm};
 use sqlite_items::Items;
 use std::alloc::Global;
 use xp_base::Memory;
 use xp_eval::is_evaluable;
-use xp_grammar::Item;
-use xp_resolve::{Uses, push};
+use xp_resolve::{Uses, push, reversed};
 use xp_tree::{Tree, Trees};
 
-/// The first byte of the first expression whose tree can't be evaluated.
+/// The first byte of the first expression of a list whose tree can't be evaluated.
 #[tactic(auto, using(xp_base::proofs::Lists::drop_one, xp_base::proofs::Lists::drop_none, crate::proofs::Readying::unready_next, crate::proofs::Readying::ready_next))]
-pub fn first_unready(items: &[Item], trees: &[Tree]) -> Option<u64>
-    requires { length items.now ≡ length trees.now }
-    ensures place { result ≡ spec.first_unready (map (λ (item : Item). item.expr) items.now) trees.now }
+fn first_unready(list: ExpressionList<'_>, trees: &[Tree]) -> Option<u64>
+    requires { length trees.now ≡ length (list_in list) }
+    ensures place { result ≡ spec.first_unready (list_in list.entry) trees.now }
     ensures ready { IfNone result (all_evaluable is_built (terms trees.now) ≡ true) }
 {
-    for place in 0..items.len() {
-        let (item, tree) = (&items[place], &trees[place]);
+    for place in 0..list.len() {
+        let (expression, tree) = (list.at(place), &trees[place]);
         if !is_evaluable(tree) {
-            return Some(first_of(&item.expr));
+            return Some(first_of(expression));
+        }
+    }
+    None
+}
+
+/// The first byte of the first expression whose tree can't be evaluated, list by list.
+pub fn some_unready(lists: ExpressionLists<'_>, trees: &[Trees]) -> Option<u64>
+    requires { map length trees.now ≡ map length (lists_in lists) }
+    ensures place { result ≡ spec.some_unready (lists_in lists.entry) trees.now }
+    ensures ready { IfNone result (All (λ list. all_evaluable is_built (terms list) ≡ true) trees.now) }
+{
+    for place in 0..lists.len() {
+        let unready = first_unready(lists.at(place), trees[place].as_slice());
+        if unready.is_some() {
+            return unready;
         }
     }
     None
@@ -44,16 +59,30 @@ fn types_of(alloc: Global, trees: &[Tree]) -> Result<TypeNos, Memory>
     Ok(types)
 }
 
-/// The trees as those of one SELECT.
-pub fn typed_of(alloc: Global, uses: Uses, trees: Trees) -> Result<Typed, Memory>
-    ensures { IfOk result (λ typed. typed ≡ spec.typed_of uses trees) }
+/// The types of the columns that a statement gives.
+fn column_types(alloc: Global, lists: &[Trees]) -> Result<TypeNos, Memory>
+    ensures { IfOk result (λ types. types ≡ spec.column_types lists.now) }
 {
-    let types = types_of(alloc, trees.as_slice())?;
+    match lists {
+        [first, ..] => types_of(alloc, first.as_slice()),
+        [] => Ok(Items::new(alloc)),
+    }
+}
+
+/// The lists of trees as the arms of a statement.
+pub fn typed_of(
+    alloc: Global,
+    over_rows: bool,
+    uses: Uses,
+    lists: Items<Trees>,
+) -> Result<Typed, Memory>
+    ensures { IfOk result (λ typed. typed ≡ spec.typed_of over_rows uses lists) }
+{
+    let types = column_types(alloc, lists.as_slice())?;
+    let mut left = reversed(alloc, lists)?;
     let mut arms = Items::new(alloc);
-    let arm = TypedArm {
-        trees,
-        over_rows: true,
-    };
-    push(&mut arms, arm)?;
+    while let Some(trees) = left.pop() {
+        push(&mut arms, TypedArm { trees, over_rows })?;
+    }
     Ok(Typed { types, arms, uses })
 }

@@ -1,38 +1,39 @@
 //! Statements.
-ghost use Rattle.std.specs.Prelude.{◌≡◌, ◌≤◌, IfOk, Ok, length, map, true, false};
+ghost use Rattle.std.specs.Prelude.{◌≡◌, ◌≤◌, [], IfOk, length, map, true};
 ghost use Rattle.std.specs.List.{All};
 ghost use Rattle.xp_base.specs.OrMemory.{OrMemory};
 ghost use Rattle.xp_base.specs.declared.limits.TheConstants.{COLUMN_LIMIT};
 ghost use Rattle.xp_bodies.specs.Fits.{IsFitted};
 ghost use Rattle.xp_call.specs.Calls.{is_built};
 ghost use Rattle.xp_coerce.specs.Asked.{AreTruths};
-ghost use Rattle.xp_grammar.specs.declared.statement.Item.{Item};
 ghost use Rattle.xp_meaning.specs.Evaluable.{all_evaluable};
 ghost use Rattle.xp_named.specs.Columns.{AreColumns};
-ghost use Rattle.xp_resolve.specs.inner.Sources.{AreSources, IsScene};
+ghost use Rattle.xp_resolve.specs.inner.Sources.{IsScene};
 ghost use Rattle.xp_resolve.specs.Made.{is_memory};
 ghost use Rattle.xp_tree.specs.Term.{terms};
-ghost use Rattle.xp_analyse.specs.Expressions.{begun, gathered, resolved};
-ghost use Rattle.xp_analyse.specs.Statements.{analysed, analysed_all, if_built, is_evaluated, nothing_yet, place_of};
-ghost use Rattle.xp_analyse.specs.Built as built;
+ghost use Rattle.xp_analyse.specs.Lists.{lists_of};
+ghost use Rattle.xp_analyse.specs.Statements as spec;
+ghost use Rattle.xp_analyse.specs.inner.Views.{lists_in};
 
-use crate::built::{are_built, is_built};
-use crate::expressions::{with_operand, with_operands};
-use crate::operands::{begun, nothing_yet};
-use crate::ready::{first_unready, typed_of};
-use crate::settle::settled;
+use crate::gather::gather;
+use crate::joined::joined;
+use crate::lists::ExpressionLists;
+use crate::ready::{some_unready, typed_of};
+use crate::settle::all_settled;
 use crate::store::store;
 use crate::typed::Typed;
+use crate::untyped::left_without_text;
+use sqlite_items::Items;
 use std::alloc::Global;
 use xp_base::Code;
 use xp_catalog::{Catalog, Header};
-use xp_grammar::{Ast, Item, Statement};
-use xp_resolve::{Gathered, Refusal, Scene, refused};
-use xp_tree::Checks;
+use xp_grammar::Statement;
+use xp_resolve::{Refusal, Scene, Uses, refused};
+use xp_tree::{Checks, Trees};
 
 /// The first byte of the statement's first token.
 fn place_of(s: &Statement) -> u64
-    ensures { result ≡ place_of s.now }
+    ensures { result ≡ spec.place_of s.now }
 {
     let at = match s {
         Statement::Select { at, .. }
@@ -46,79 +47,67 @@ fn place_of(s: &Statement) -> u64
     u64::from(at.start)
 }
 
-#[tactic(auto, using(xp_base::proofs::Lists::drop_one, xp_base::proofs::Lists::drop_none))]
-fn are_items_built(items: &[Item]) -> bool
-    ensures { result ≡ built.are_built (map (λ (item : Item). item.expr) items.now) }
+/// Whether the trees of the statement are to be evaluated.
+fn is_evaluated(s: &Statement) -> bool
+    ensures { result ≡ spec.is_evaluated s.now }
 {
-    for item in items {
-        if !is_built(&item.expr) {
-            return false;
+    !matches!(s, Statement::Describe { .. })
+}
+
+/// Whether each row is gone through.
+fn is_over_rows(s: &Statement) -> bool
+    ensures { result ≡ spec.is_over_rows s.now }
+{
+    !matches!(s, Statement::Values { .. })
+}
+
+/// The columns that the statement sees: all of them, or none.
+fn columns_seen<'a>(s: &Statement, columns: &'a Header, none: &'a Header) -> &'a Header
+    requires { none.now ≡ [] }
+    ensures { result.now ≡ spec.columns_seen s.now columns.now }
+{
+    if matches!(s, Statement::Values { .. }) {
+        none
+    } else {
+        columns
+    }
+}
+
+/// The lists of trees, which have to be ready where they are to be evaluated.
+fn readied(
+    alloc: Global,
+    s: &Statement,
+    lists: ExpressionLists<'_>,
+    uses: Uses,
+    trees: Items<Trees>,
+) -> Result<Typed, Refusal>
+    requires lists { lists_in lists ≡ lists_of s.now }
+    requires shape { map length trees ≡ map length (lists_of s.now) }
+    ensures value { OrMemory is_memory (spec.readied s.now uses trees) result }
+    ensures ready { spec.is_evaluated s.now ≡ true → IfOk result (λ typed. All (λ arm. all_evaluable is_built (terms arm.trees) ≡ true) typed.arms) }
+{
+    if is_evaluated(s) {
+        if let Some(at) = some_unready(lists, trees.as_slice()) {
+            return refused(Code::NoBody, at);
         }
     }
-    true
+    Ok(typed_of(alloc, is_over_rows(s), uses, trees)?)
 }
 
-/// The trees of the expressions of a SELECT.
-fn with_items(alloc: Global, scene: &Scene<'_>, items: &[Item]) -> Result<Gathered, Refusal>
+/// A statement over lists of expressions.
+fn analyse_lists(alloc: Global, scene: &Scene<'_>, s: &Statement) -> Result<Typed, Refusal>
     requires { IsScene scene.now }
-    ensures value { OrMemory is_memory (gathered (Ok (begun nothing_yet)) (map (resolved scene.now) (map (λ (item : Item). item.expr) items.now))) result }
-    ensures sources { IfOk result (λ g. AreSources scene.now.c g.parts) }
-    ensures count { IfOk result (λ g. length g.parts ≡ length items.now) }
+    ensures value { OrMemory is_memory (spec.analysed_lists scene.now s.now) result }
+    ensures ready { spec.is_evaluated s.now ≡ true → IfOk result (λ typed. All (λ arm. all_evaluable is_built (terms arm.trees) ≡ true) typed.arms) }
 {
-    let mut all = Ok(begun(alloc, nothing_yet(alloc)));
-    for item in items {
-        all = with_operand(alloc, scene, all, &item.expr);
+    let lists = ExpressionLists::of(s);
+    let made = gather(alloc, scene, lists)?;
+    let table = joined(alloc, scene, s, made.progress.nodes, made.lists)?;
+    if let Some(at) = left_without_text(scene.catalog(), lists) {
+        return refused(Code::UnknownType, at);
     }
-    all
-}
-
-/// The expressions of a SELECT, whose trees are to be evaluated.
-fn selected(alloc: Global, scene: &Scene<'_>, items: &[Item]) -> Result<Typed, Refusal>
-    requires { IsScene scene.now }
-    ensures value { OrMemory is_memory (analysed_all scene.now true (map (λ (item : Item). item.expr) items.now)) result }
-    ensures ready { IfOk result (λ typed. All (λ arm. all_evaluable is_built (terms arm.trees) ≡ true) typed.arms) }
-{
-    let made = with_items(alloc, scene, items)?;
-    let all = settled(alloc, scene, made.progress.nodes, made.parts)?;
-    match first_unready(items, all.trees.as_slice()) {
-        Some(at) => refused(Code::NoBody, at),
-        None => Ok(typed_of(alloc, made.progress.uses, all.trees)?),
-    }
-}
-
-/// A SELECT.
-fn select(alloc: Global, scene: &Scene<'_>, items: &[Item]) -> Result<Typed, Refusal>
-    requires { IsScene scene.now }
-    ensures value { OrMemory is_memory (if_built scene.now true (map (λ (item : Item). item.expr) items.now)) result }
-    ensures ready { IfOk result (λ typed. All (λ arm. all_evaluable is_built (terms arm.trees) ≡ true) typed.arms) }
-{
-    if are_items_built(items) {
-        selected(alloc, scene, items)
-    } else {
-        refused(Code::NotBuilt, scene.start())
-    }
-}
-
-/// The expressions of a DESCRIBE, whose trees are not evaluated.
-fn described(alloc: Global, scene: &Scene<'_>, exprs: &[Ast]) -> Result<Typed, Refusal>
-    requires { IsScene scene.now }
-    ensures { OrMemory is_memory (analysed_all scene.now false exprs.now) result }
-{
-    let made = with_operands(alloc, scene, Ok(begun(alloc, nothing_yet(alloc))), exprs)?;
-    let all = settled(alloc, scene, made.progress.nodes, made.parts)?;
-    Ok(typed_of(alloc, made.progress.uses, all.trees)?)
-}
-
-/// A DESCRIBE.
-fn describe(alloc: Global, scene: &Scene<'_>, exprs: &[Ast]) -> Result<Typed, Refusal>
-    requires { IsScene scene.now }
-    ensures { OrMemory is_memory (if_built scene.now false exprs.now) result }
-{
-    if are_built(exprs) {
-        described(alloc, scene, exprs)
-    } else {
-        refused(Code::NotBuilt, scene.start())
-    }
+    let all = all_settled(alloc, scene, table)?;
+    readied(alloc, s, lists, made.progress.uses, all.lists)
 }
 
 /// Analyses a statement over the catalogue, the checks of its domains and the columns of the rows.
@@ -135,17 +124,19 @@ pub fn analyse(
     requires checks { AreTruths k.now }
     requires columns { AreColumns c.now h.now }
     requires few { length h.now ≤ COLUMN_LIMIT }
-    ensures value { OrMemory is_memory (analysed c.now k.now h.now s.now) result }
-    ensures ready { is_evaluated s.now ≡ true → IfOk result (λ typed. All (λ arm. all_evaluable is_built (terms arm.trees) ≡ true) typed.arms) }
+    ensures value { OrMemory is_memory (spec.analysed c.now k.now h.now s.now) result }
+    ensures ready { spec.is_evaluated s.now ≡ true → IfOk result (λ typed. All (λ arm. all_evaluable is_built (terms arm.trees) ≡ true) typed.arms) }
 {
-    let scene = Scene::new(c, k, h, place_of(s));
+    let none = Header::new(alloc);
+    let scene = Scene::new(c, k, columns_seen(s, h, &none), place_of(s));
     match s {
-        Statement::Select { items, .. } => select(alloc, &scene, items.as_slice()),
-        Statement::Store { target, source, .. } => store(alloc, &scene, target, source),
-        Statement::Describe { exprs, .. } => describe(alloc, &scene, exprs.as_slice()),
-        Statement::UnionAll { .. }
+        Statement::Select { .. }
+        | Statement::UnionAll { .. }
         | Statement::Values { .. }
-        | Statement::Explain { .. }
-        | Statement::ExplainAnalyze { .. } => refused(Code::NotBuilt, scene.start()),
+        | Statement::Describe { .. } => analyse_lists(alloc, &scene, s),
+        Statement::Store { target, source, .. } => store(alloc, &scene, target, source),
+        Statement::Explain { .. } | Statement::ExplainAnalyze { .. } => {
+            refused(Code::NotBuilt, scene.start())
+        }
     }
 }

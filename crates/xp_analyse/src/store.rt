@@ -10,16 +10,16 @@ ghost use Rattle.xp_resolve.specs.Made.{is_memory};
 ghost use Rattle.xp_tree.specs.Term.{Term, terms};
 ghost use Rattle.xp_analyse.specs.Statements as spec;
 
-use crate::built::{first_of, is_built};
-use crate::expressions::resolve;
-use crate::operands::nothing_yet;
+use crate::begins::first_of;
 use crate::ready::typed_of;
 use crate::typed::Typed;
+use crate::untyped::left_in_source;
 use sqlite_items::Items;
 use std::alloc::Global;
 use xp_base::{Code, Memory};
 use xp_catalog::Context;
 use xp_eval::is_evaluable;
+use xp_expressions::{nothing_yet, resolve};
 use xp_grammar::{Ast, TypeWords};
 use xp_named::name_type;
 use xp_resolve::{Converted, Made, Part, Progress, Refusal, Scene, Uses, convert, push, refused};
@@ -46,11 +46,13 @@ fn assigned(
 
 /// The tree as that of one SELECT.
 fn typed_one(alloc: Global, uses: Uses, tree: Tree) -> Result<Typed, Memory>
-    ensures { IfOk result (λ typed. typed ≡ spec.typed_of uses (tree ∷ [])) }
+    ensures { IfOk result (λ typed. typed ≡ spec.typed_of true uses ((tree ∷ []) ∷ [])) }
 {
     let mut trees = Items::new(alloc);
     push(&mut trees, tree)?;
-    typed_of(alloc, uses, trees)
+    let mut lists = Items::new(alloc);
+    push(&mut lists, trees)?;
+    typed_of(alloc, true, uses, lists)
 }
 
 /// The tree, which has to be one that can be evaluated.
@@ -65,8 +67,8 @@ fn readied(alloc: Global, source: &Ast, uses: Uses, tree: Tree) -> Result<Typed,
     }
 }
 
-/// What is stored, where its source is built.
-fn stored(
+/// A STORE.
+pub fn store(
     alloc: Global,
     scene: &Scene<'_>,
     words: &TypeWords,
@@ -81,23 +83,8 @@ fn stored(
         progress: Progress { nodes, uses },
     } = resolve(alloc, scene, source, nothing_yet(alloc))?;
     let one = assigned(alloc, scene, words, nodes, part)?;
-    readied(alloc, source, uses, one.tree)
-}
-
-/// A STORE.
-pub fn store(
-    alloc: Global,
-    scene: &Scene<'_>,
-    words: &TypeWords,
-    source: &Ast,
-) -> Result<Typed, Refusal>
-    requires { IsScene scene.now }
-    ensures value { OrMemory is_memory (spec.stored_if_built scene.now words.now source.now) result }
-    ensures ready { IfOk result (λ typed. All (λ arm. all_evaluable is_built (terms arm.trees) ≡ true) typed.arms) }
-{
-    if is_built(source) {
-        stored(alloc, scene, words, source)
-    } else {
-        refused(Code::NotBuilt, scene.start())
+    if let Some(at) = left_in_source(scene.catalog(), source) {
+        return refused(Code::UnknownType, at);
     }
+    readied(alloc, source, uses, one.tree)
 }

@@ -70,7 +70,7 @@ SELECT 60 / qty, 1 % (2 - 2);
 
 -- ---- Refusals (43 to 60), each with its code and the byte at which it stands.
 SELECT id FROM customer;
-SELECT qty IS NULL;
+EXPLAIN qty * 12.5;
 SELECT qty - customer;
 SELECT upper();
 SELECT ~ '20';
@@ -120,6 +120,59 @@ SELECT paid + 30, date '2024-03-31' - paid, EXTRACT(month FROM paid), paid > '20
 SELECT total::numeric(5,1), total::int4, total::text;
 STORE numeric(5,2) FROM total;
 
--- ---- A text without end (83), which ends the script.
+-- ---- Truth values and tests (83 to 88): AND stops at false and OR at true, from left to right.
+DESCRIBE qty > 4 AND total < 100 OR NOT paid > '2024-03-01', qty IS NULL, qty > 4 IS NOT TRUE;
+SELECT id, qty > 4 AND total < 100, qty > 4 OR total < 100, NOT qty > 4;
+SELECT id, qty IS NULL, paid NOTNULL, qty > 4 IS TRUE, qty > 4 IS NOT FALSE, qty > 4 IS UNKNOWN;
+SELECT id, qty <> 0 AND 60 / qty > 7;
+SELECT 60 / qty > 7 AND qty <> 0;
+SELECT id AND true;
+
+-- ---- BETWEEN, IN, LIKE and ILIKE (89 to 94): operators, which are chosen for each pair of operands.
+DESCRIBE total BETWEEN 50 AND 200, id + 1 NOT BETWEEN 2 AND 3, qty IN (3, 8.5), customer LIKE 'A%';
+SELECT id, total BETWEEN 50 AND 200, qty NOT BETWEEN 1 AND 8, paid BETWEEN '2024-03-01' AND '2024-03-31';
+SELECT id, qty IN (3, 5, 8), qty NOT IN (3, NULL), customer IN ('Ann', 'Bob');
+SELECT id, customer LIKE '%o%', customer NOT LIKE '_o%', customer ILIKE 'D%';
+SELECT customer IN ('Ann', 2);
+SELECT total LIKE '1%';
+
+-- ---- CASE (95 to 101): the results come to one type, and what stands behind the choice isn't looked at.
+DESCRIBE CASE WHEN qty > 5 THEN qty ELSE total END, CASE qty WHEN 3 THEN 'three' WHEN 8 THEN 'eight' END;
+SELECT id, CASE WHEN total >= 1000 THEN 'large' WHEN total >= 100 THEN 'mid' ELSE 'small' END, CASE qty WHEN 3 THEN 'three' WHEN 8 THEN 'eight' END;
+SELECT id, CASE WHEN qty <> 0 THEN 60 / qty END;
+-- A constant part raises early, unless a constant condition keeps it from being reached.
+SELECT CASE WHEN id > 0 THEN id ELSE 1 / 0 END;
+SELECT id, CASE WHEN 1 = 2 THEN 1 / 0 ELSE qty END;
+SELECT CASE WHEN id THEN 1 END;
+SELECT CASE WHEN qty > 5 THEN 'many' ELSE qty END;
+
+-- ---- COALESCE, GREATEST, LEAST, NULLIF, IS DISTINCT FROM (102 to 108).
+DESCRIBE NULLIF(id, 2.5), total IS DISTINCT FROM 12, LEAST('a', customer), COALESCE(NULL, 'b');
+SELECT id, COALESCE(qty, 0), COALESCE(paid, '2024-12-31'), GREATEST(qty, total, 10), LEAST(qty, 5), NULLIF(qty, 0);
+SELECT id, qty IS DISTINCT FROM 3, qty IS NOT DISTINCT FROM NULL;
+SELECT COALESCE(qty, 1 / 0);
+SELECT COALESCE(qty, paid);
+SELECT GREATEST(paid, time '12:00');
+STORE varchar(5) FROM CASE WHEN total > 100 THEN 'mid' ELSE customer END;
+
+-- ---- Arrays and their elements (109 to 114): their types are found, their values aren't computed.
+DESCRIBE ARRAY[id, total], ARRAY['a', customer], ARRAY[]::date[], ARRAY[qty, id][1], ('{1,2}'::int4[])[id];
+DESCRIBE ARRAY[1, 2] || 3, ARRAY[id] = ARRAY[qty], cardinality(ARRAY[paid]);
+SELECT id, ARRAY[qty];
+SELECT ARRAY[ARRAY[1]];
+DESCRIBE ARRAY[];
+DESCRIBE customer[1];
+
+-- ---- VALUES and UNION ALL (115 to 122): each column comes to one type, of UNION ALL pair by pair.
+VALUES (1, 'a'), (2.5, NULL);
+SELECT id, total UNION ALL SELECT 0, qty;
+SELECT id UNION ALL SELECT 60 / qty;
+SELECT NULL UNION ALL SELECT NULL UNION ALL SELECT id;
+SELECT id, qty UNION ALL SELECT id;
+VALUES (1), (2, 3);
+VALUES (1), (id);
+VALUES (1), (1 / 0);
+
+-- ---- A text without end (123), which ends the script.
 SELECT 'never closed;
 SELECT 1;

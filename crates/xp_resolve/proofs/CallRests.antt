@@ -54,7 +54,7 @@ of_plain P name each among =
     is_word P name (codes "date") each.date (λ no_date.
     let never : false ≡ true = rw (no_bool, no_int2, no_int4, no_int8, no_numeric, no_text, no_varchar, no_bpchar, no_bytea, no_date) at among in absurd (cc never)))))))))))
 
-plain_is_no_pseudo : (name : List ℕ) → is_among plain_names name ≡ true → spelling.pseudo_type name ≡ None
+pub plain_is_no_pseudo : (name : List ℕ) → is_among plain_names name ≡ true → spelling.pseudo_type name ≡ None
 plain_is_no_pseudo name = of_plain (λ n. spelling.pseudo_type n ≡ None) name
     (record { bool = refl; int2 = refl; int4 = refl; int8 = refl; numeric = refl; text = refl; varchar = refl; bpchar = refl; bytea = refl; date = refl })
 

@@ -1,4 +1,4 @@
-use Rattle.std.proofs.Common.{◌≡◌, drop, ◌+◌, ◌*◌, max}
+use Rattle.std.proofs.Common.{◌≡◌, drop, ◌+◌, ◌*◌}
 use Rattle.xp_tree.specs.Term.{terms}
 use Rattle.xp_tree.specs.View.{arms_of}
 use Rattle.xp_tree.specs.inner.Heights.{height, height_all, height_arms}

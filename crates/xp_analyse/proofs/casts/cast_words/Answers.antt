@@ -1,8 +1,0 @@
-use Rattle.std.proofs.Common.{◌≡◌, sym, Ok}
-use Rattle.xp_named.specs.Named.{named_type}
-use Rattle.xp_analyse.proofs.casts.cast_words.Goals as goal
-
-pub returns-in-Ok-clause-value : goal.returns-in-Ok-clause-value
-returns-in-Ok-clause-value c =
-    let said : named_type c.args.scene.now.c c.args.words.now ≡ Ok c.in-Ok.named = rw c.catalog.ensures at (sym c.in-Ok.ensures.answer) in
-    rw said c.cast_to.ensures.value

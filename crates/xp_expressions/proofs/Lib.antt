@@ -1,0 +1,4 @@
+mod Forms
+mod Gathering
+mod Halves
+mod Filled

@@ -1,0 +1,9 @@
+pub mod Truths
+pub mod Connectives
+pub mod Tests
+pub mod Common
+pub mod Rewritten
+pub mod Cases
+pub mod Distinct
+pub mod Arrays
+pub mod inner
