@@ -1,0 +1,5 @@
+pub mod Bytes
+pub mod Cut
+pub mod Elements
+pub mod Lists
+pub mod Shown

@@ -1,0 +1,4 @@
+pub mod OfKind
+pub mod Points
+pub mod Given
+pub mod ReadBack
